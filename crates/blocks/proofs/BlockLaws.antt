@@ -74,13 +74,18 @@ module _ (bytes out : List ℕ) (w : ℕ) where
       ∙ sym (encode-more w (bytes ++ replicate 3 0)) ∙ ap (λ (y : ℕ). encode y (bytes ++ replicate 3 0)) (sym g))
 
 -- a byte of a block, and a zero behind it
+all-zero : (n i : ℕ) → _≡_ {A = ℕ} (getD (replicate n 0) i 0) 0
+all-zero zero i = refl
+all-zero (suc n) zero = refl
+all-zero (suc n) (suc i) = all-zero n i
+
+pub zeros-behind : (n : ℕ) (bytes : List ℕ) (i : ℕ) → getD (bytes ++ replicate n 0) i 0 ≡ getD bytes i 0
+zeros-behind n [] i = all-zero n i
+zeros-behind n (x ∷ bytes) zero = refl
+zeros-behind n (x ∷ bytes) (suc i) = zeros-behind n bytes i
+
 pub padded : (bytes : List ℕ) (i : ℕ) → getD (bytes ++ replicate 3 0) i 0 ≡ getD bytes i 0
-padded [] zero = refl
-padded [] (suc zero) = refl
-padded [] (suc (suc zero)) = refl
-padded [] (suc (suc (suc i))) = refl
-padded (x ∷ bytes) zero = refl
-padded (x ∷ bytes) (suc i) = padded bytes i
+padded = zeros-behind 3
 
 -- the four bytes that are read for a last group
 pub filled : (bytes : List ℕ) (k a b c d : ℕ) → a ≡ getD bytes k 0 → b ≡ getD bytes (k + 1) 0 → c ≡ getD bytes (k + 2) 0 → d ≡ getD bytes (k + 3) 0
