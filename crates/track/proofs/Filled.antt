@@ -19,8 +19,8 @@ module _ (payloads : List ℕ) (j i : ℕ) where
   abbrev supplied : ℕ → ℕ
   supplied k = getD payloads (256 * j + k) 0
 
-  pub payload-more : (v : ℕ) (payload : List ℕ) → i < 256 → v ≡ getD payloads (256 * j + i) 0 → payload ≡ tab i supplied ++ drop i (replicate 256 0)
-      → set payload i v ≡ tab (i + 1) supplied ++ drop (i + 1) (replicate 256 0)
+  pub payload-more : (v : ℕ) (payload : List ℕ) → i < 256 → v ≡ getD payloads (256 * j + i) 0
+      → payload ≡ tab i supplied ++ drop i (replicate 256 0) → set payload i v ≡ tab (i + 1) supplied ++ drop (i + 1) (replicate 256 0)
   payload-more v payload h q e = rw (q, e) (tab-more i supplied (replicate 256 0) h)
 
   pub payload-all : (payload : List ℕ) → i ≡ 256 → payload ≡ tab i supplied ++ drop i (replicate 256 0) → payload ≡ payloadOf payloads j

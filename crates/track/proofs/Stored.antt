@@ -31,39 +31,39 @@ use Rattle.track.proofs.BlockBits.{length-block}
 use Rattle.track.proofs.SlotBits.{length-slot}
 
 -- ---- a block and a slot, from place `at` of l on
-module _ (l : List ℕ) (at after : ℕ) where
-  pub block-put : (n : ℕ) (bytes a b c : List ℕ) → a ≡ sets l at (replicate 5 255) → b ≡ sets a (at + 5) (encode n bytes)
+length-front : (b : Bool) (header : List ℕ) → length (pick b (gap 24) (block 2 header 9)) ≡ 24
+length-front true header = refl
+length-front false header = length-block 2 header 9
+
+module _ (l : List ℕ) (at : ℕ) where
+  pub block-put : (n after : ℕ) (bytes a b c : List ℕ) → a ≡ sets l at (replicate 5 255) → b ≡ sets a (at + 5) (encode n bytes)
       → c ≡ sets b (at + 5 + 5 * n) (replicate after 85) → c ≡ sets l at (block n bytes after)
   unfolding block
-  block-put n bytes a b c p q r =
+  block-put n after bytes a b c p q r =
       let k : at + 5 + 5 * n ≡ at + (5 + 5 * n) = omega arith in
       let e : b ≡ sets l at (sync ++ encode n bytes) = q ∙ rw p (sets-more sync (encode n bytes) l at 5 refl) in
       let m : length (sync ++ encode n bytes) ≡ 5 + 5 * n = simp length-encode (omega arith) in
       r ∙ rw (k, e) (sets-more (sync ++ encode n bytes) (gap after) l at (5 + 5 * n) m)
 
-  -- the first 24 bytes of a slot, whether its header is written or not
-  length-front : (b : Bool) (header : List ℕ) → length (pick b (gap 24) (block 2 header 9)) ≡ 24
-  length-front true header = refl
-  length-front false header = length-block 2 header 9
-
-  module _ (code : ℕ) (header body a : List ℕ) where
+  module _ (code : ℕ) (header a : List ℕ) where
     pub front-gap : code ≡ 2 → a ≡ sets l at (replicate 24 85) → a ≡ sets l at (pick (eqb code 2) (gap 24) (block 2 header 9))
     front-gap e p = rw (eqb-yes code 2 e) p
 
     pub front-block : code ≢ 2 → a ≡ sets l at (block 2 header 9) → a ≡ sets l at (pick (eqb code 2) (gap 24) (block 2 header 9))
     front-block e p = rw (eqb-no code 2 e) p
 
-    pub slot-gap : code ≡ 3 → a ≡ sets l at (replicate (354 + after) 85) → a ≡ sets l at (slot code header body after)
-    unfolding slot
-    slot-gap e p = rw (eqb-yes code 3 e) p
+    module _ (body : List ℕ) (after : ℕ) where
+      pub slot-gap : code ≡ 3 → a ≡ sets l at (replicate (354 + after) 85) → a ≡ sets l at (slot code header body after)
+      unfolding slot
+      slot-gap e p = rw (eqb-yes code 3 e) p
 
-    pub slot-put : (b : List ℕ) → code ≢ 3 → a ≡ sets l at (pick (eqb code 2) (gap 24) (block 2 header 9)) → b ≡ sets a (at + 24) (block 65 body after)
-        → b ≡ sets l at (slot code header body after)
-    unfolding slot
-    slot-put b e p q =
-        let f = pick (eqb code 2) (gap 24) (block 2 header 9) in
-        rw (eqb-no code 3 e) (q ∙ ap (λ (y : List ℕ). sets y (at + 24) (block 65 body after)) p
-        ∙ sets-more f (block 65 body after) l at 24 (length-front (eqb code 2) header))
+      pub slot-put : (b : List ℕ) → code ≢ 3 → a ≡ sets l at (pick (eqb code 2) (gap 24) (block 2 header 9))
+          → b ≡ sets a (at + 24) (block 65 body after) → b ≡ sets l at (slot code header body after)
+      unfolding slot
+      slot-put b e p q =
+          let f = pick (eqb code 2) (gap 24) (block 2 header 9) in
+          rw (eqb-no code 3 e) (q ∙ ap (λ (y : List ℕ). sets y (at + 24) (block 65 body after)) p
+          ∙ sets-more f (block 65 body after) l at 24 (length-front (eqb code 2) header))
 
 -- ---- one slot after the other
 module _ (track : ℕ) (payloads codes : List ℕ) (id1 id2 : ℕ) where
@@ -93,25 +93,28 @@ module _ (track : ℕ) (payloads codes : List ℕ) (id1 id2 : ℕ) where
     unfolding joined
     slots-none = refl
 
-    pub slots-more : (at j : ℕ) (a b : List ℕ) → at ≡ slotStart (zoneOf track) j → a ≡ sets l 0 (joined j slots) → b ≡ sets a at (slots j)
-        → b ≡ sets l 0 (joined (j + 1) slots)
+    pub slots-more : (at j : ℕ) (a b : List ℕ) → at ≡ slotStart (zoneOf track) j → a ≡ sets l 0 (joined j slots)
+        → b ≡ sets a at (slots j) → b ≡ sets l 0 (joined (j + 1) slots)
     unfolding joined
     slots-more at j a b s p q =
         rw (add-one j)
         (q ∙ rw (p, ← zero-add at) (sets-more (joined j slots) (slots j) l 0 at (length-to j ∙ sym s)))
 
-    pub slots-all : (j : ℕ) (a : List ℕ) → j ≡ sectorsOf track → a ≡ sets l 0 (joined j slots) → a ≡ sets l 0 (builtTrack track payloads codes id1 id2)
+    pub slots-all : (j : ℕ) (a : List ℕ) → j ≡ sectorsOf track → a ≡ sets l 0 (joined j slots)
+        → a ≡ sets l 0 (builtTrack track payloads codes id1 id2)
     unfolding builtTrack
     slots-all j a e p = p ∙ rw e
 
 -- ---- the answers
 module _ (track : ℕ) (payloads codes : List ℕ) (id1 id2 : ℕ) (out : List ℕ) where
-  pub wrong-sum : length payloads % 256 ≢ 0 → (Refused wrongSum ≡ built track payloads out) × (out ≡ outAfter track payloads codes id1 id2 out)
+  pub wrong-sum : length payloads % 256 ≢ 0
+      → (Refused wrongSum ≡ built track payloads out) × (out ≡ outAfter track payloads codes id1 id2 out)
   unfolding built outAfter
   wrong-sum n = let e = eqb-no (length payloads % 256) 0 n in (rw e, rw e)
 
   module _ (s : length payloads % 256 ≡ 0) (capacity : ℕ) (k : capacity ≡ capacityOf track) where
-    pub no-room : length out < capacity → (Refused noRoom ≡ built track payloads out) × (out ≡ outAfter track payloads codes id1 id2 out)
+    pub no-room : length out < capacity
+        → (Refused noRoom ≡ built track payloads out) × (out ≡ outAfter track payloads codes id1 id2 out)
     unfolding built outAfter
     no-room h =
         let e = eqb-yes (length payloads % 256) 0 s in

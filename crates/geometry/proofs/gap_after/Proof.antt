@@ -44,8 +44,10 @@ returns : tie.Need-returns
 unfolding gapBase longerGaps
 returns c =
     let z = c .before .zone-of in
-    let a = c .before .before .args in
-    (gap-long (z .result) (a .sector) (c .if1 .taken) ∙ ap (λ (y : ℕ). gapIn y (a .sector)) (z .ensures .0), omega (arith, gap-base-le (z .result) (z .ensures .1)))
+    let a = c .before .before .args in (
+      gap-long (z .result) (a .sector) (c .if1 .taken) ∙ ap (λ (y : ℕ). gapIn y (a .sector)) (z .ensures .0),
+      omega (arith, gap-base-le (z .result) (z .ensures .1)),
+    )
 
 -- src/lib.rt:70:5
 mul-result-2 : tie.Need-mul-result-2
@@ -60,8 +62,10 @@ returns-2 : tie.Need-returns-2
 unfolding gapBase longerGaps
 returns-2 c =
     let z = c .before .zone-of in
-    let a = c .before .before .args in
-    (gap-short (z .result) (a .sector) (c .if1 .left) ∙ ap (λ (y : ℕ). gapIn y (a .sector)) (z .ensures .0), omega (arith, gap-base-le (z .result) (z .ensures .1)))
+    let a = c .before .before .args in (
+      gap-short (z .result) (a .sector) (c .if1 .left) ∙ ap (λ (y : ℕ). gapIn y (a .sector)) (z .ensures .0),
+      omega (arith, gap-base-le (z .result) (z .ensures .1)),
+    )
 
 pub gap-after-spec : {M : Type 1} → statement M
 gap-after-spec =

@@ -22,8 +22,8 @@ returns-2 : tie.Need-returns-2
 returns-2 c =
     let k = c .before in
     let a = k .before .before .before .before .before .args in
-    no-room (a .track) (a .payloads .now) (a .codes .now) (a .id1) (a .id2) (a .out .now) (k .before .if1 .left) (k .track-capacity .result)
-    (k .track-capacity .ensures .0) (c .if2 .taken)
+    no-room (a .track) (a .payloads .now) (a .codes .now) (a .id1) (a .id2) (a .out .now)
+    (k .before .if1 .left) (k .track-capacity .result) (k .track-capacity .ensures .0) (c .if2 .taken)
 
 -- src/lib.rt:222:5
 put-sectors-requires : tie.Need-put-sectors-requires
@@ -40,8 +40,9 @@ returns-3 c =
     let i = p .before .before in
     let k = i .before in
     let a = k .before .before .before .before .before .args in
-    written (a .track) (a .payloads .now) (a .codes .now) (a .id1) (a .id2) (a .out .now) (k .before .if1 .left) (k .track-capacity .result)
-    (k .track-capacity .ensures .0) (i .if2 .left) (p .put-sectors .last .0) (p .put-sectors .ensures)
+    written (a .track) (a .payloads .now) (a .codes .now) (a .id1) (a .id2) (a .out .now)
+    (k .before .if1 .left) (k .track-capacity .result) (k .track-capacity .ensures .0) (i .if2 .left)
+    (p .put-sectors .last .0) (p .put-sectors .ensures)
 
 pub build-track-with-errors-spec : {M : Type 1} → statement M
 build-track-with-errors-spec =

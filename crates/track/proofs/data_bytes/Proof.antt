@@ -69,7 +69,8 @@ loop-again c =
     let s = l .before .before .before .before .before in (
       omega arith,
       simp length-set (l .loop .inv .1),
-      filled-more (pick (eqb (s .args .code) 4) 0 7) (s .args .payload .now) (l .loop .i) (l .loop .block) (omega arith) (s .pre) (l .loop .inv .2),
+      filled-more (pick (eqb (s .args .code) 4) 0 7) (s .args .payload .now) (l .loop .i) (l .loop .block)
+          (omega arith) (s .pre) (l .loop .inv .2),
     )
 
 -- src/lib.rt:87:5
@@ -82,7 +83,8 @@ returns c =
     let l = c .before in
     let v = l .before .before in
     let s = v .before .before .before in
-    filled-all (pick (eqb (s .args .code) 4) 0 7) (s .args .payload .now) (l .loop .i) (v .inverted-if .result) (l .loop .block) (omega arith) (s .pre) (l .loop .inv .2)
+    filled-all (pick (eqb (s .args .code) 4) 0 7) (s .args .payload .now) (l .loop .i) (v .inverted-if .result) (l .loop .block)
+    (omega arith) (s .pre) (l .loop .inv .2)
     ∙ ap (λ (y : ℕ). pick (eqb (s .args .code) 4) 0 7 ∷ (s .args .payload .now ++ (y ∷ 0 ∷ 0 ∷ [])))
     (v .inverted-if .ensures ∙ ap (inverted (eqb (s .args .code) 5)) (v .before .xor-of .ensures))
 

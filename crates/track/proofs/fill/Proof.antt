@@ -44,7 +44,8 @@ loop-again c =
     let a = l .before .args in (
       omega arith,
       simp length-set (l .loop .inv .1),
-      ap (λ (y : List ℕ). set y (a .at + l .loop .i) (a .value)) (l .loop .inv .2) ∙ sets-fill (a .out .now) (a .at) (l .loop .i) (a .value),
+      ap (λ (y : List ℕ). set y (a .at + l .loop .i) (a .value)) (l .loop .inv .2)
+          ∙ sets-fill (a .out .now) (a .at) (l .loop .i) (a .value),
     )
 
 -- src/lib.rt:102:1

@@ -55,7 +55,8 @@ loop-again c =
     let a = l .before .before .args in (
       omega arith,
       simp length-set (l .loop .inv .1),
-      payload-more (a .payloads .now) (a .sector) (l .loop .i) (c .byte-or .result) (l .loop .payload) (omega arith) (c .byte-or .ensures) (l .loop .inv .2),
+      payload-more (a .payloads .now) (a .sector) (l .loop .i) (c .byte-or .result) (l .loop .payload)
+          (omega arith) (c .byte-or .ensures) (l .loop .inv .2),
     )
 
 -- src/lib.rt:31:1

@@ -46,8 +46,8 @@ returns c =
     let g = f .before .before .before .before in
     let h = g .before .before .before .before in
     let a = h .before .before .before .before .args in
-    block-put (a .out .now) (a .at) (a .after) (a .n) (a .bytes .now) (h .fill .last .0) (g .encode-groups .last .0) (f .fill2 .last .0) (h .fill .ensures)
-    (g .encode-groups .ensures) (f .fill2 .ensures)
+    block-put (a .out .now) (a .at) (a .n) (a .after) (a .bytes .now)
+    (h .fill .last .0) (g .encode-groups .last .0) (f .fill2 .last .0) (h .fill .ensures) (g .encode-groups .ensures) (f .fill2 .ensures)
 
 pub put-block-spec : {M : Type 1} → statement M
 put-block-spec =

@@ -1,5 +1,4 @@
 use Rattle.track.proofs.Stored.{front-gap, front-block}
-use mathlib.Core.List.{[]}
 use borrow.Author.Needs.{needs}
 use Rattle.track.proofs.put_front.Statement.{statement}
 use Rattle.track.proofs.put_front.Tie as tie
@@ -22,7 +21,7 @@ returns c =
     let f = c .before .before in
     let i = f .before .before in
     let a = i .before .before .before .args in
-    front-gap (a .out .now) (a .at) 0 (a .code) (a .header .now) [] (f .fill .last .0) (i .if1 .taken) (f .fill .ensures)
+    front-gap (a .out .now) (a .at) (a .code) (a .header .now) (f .fill .last .0) (i .if1 .taken) (f .fill .ensures)
 
 -- src/lib.rt:134:5
 put-block-requires : tie.Need-put-block-requires
@@ -38,7 +37,7 @@ returns-2 c =
     let f = c .before .before in
     let i = f .before .before in
     let a = i .before .before .before .args in
-    front-block (a .out .now) (a .at) 0 (a .code) (a .header .now) [] (f .put-block .last .0) (i .if1 .left) (f .put-block .ensures)
+    front-block (a .out .now) (a .at) (a .code) (a .header .now) (f .put-block .last .0) (i .if1 .left) (f .put-block .ensures)
 
 pub put-front-spec : {M : Type 1} → statement M
 put-front-spec =

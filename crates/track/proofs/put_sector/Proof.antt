@@ -60,8 +60,9 @@ returns c =
     let a = k .before .before .before .before .args in (
       ap (λ (y : ℕ). 354 + y) (g .gap-after .ensures .0),
       p .put-slot .ensures ∙ ap (sets (a .out .now) (a .at))
-          (slot-by (a .track) (a .payloads .now) (a .codes .now) (a .id1) (a .id2) (a .sector) (k .byte-or .result) (g .gap-after .result) (h .header-bytes .result)
-          (b .sector-bytes .result) (k .byte-or .ensures) (h .header-bytes .ensures) (b .sector-bytes .ensures) (g .gap-after .ensures .0)),
+          (slot-by (a .track) (a .payloads .now) (a .codes .now) (a .id1) (a .id2) (a .sector)
+          (k .byte-or .result) (g .gap-after .result) (h .header-bytes .result) (b .sector-bytes .result)
+          (k .byte-or .ensures) (h .header-bytes .ensures) (b .sector-bytes .ensures) (g .gap-after .ensures .0)),
     )
 
 pub put-sector-spec : {M : Type 1} → statement M

@@ -19,7 +19,8 @@ use Rattle.track.proofs.put_sector.Reads as put-sector-reads
 
 abbrev Inv-loop : tie.InvT-loop
 Inv-loop out₀ track payloads codes id1 id2 count at₀ sector₀ out at sector =
-    (sector ≤ count) × (at ≡ slotStart (zoneOf track) sector) × (length out ≡ length out₀) × (out ≡ sets out₀ 0 (joined sector (slotOf track payloads codes id1 id2)))
+    (sector ≤ count) × (at ≡ slotStart (zoneOf track) sector) × (length out ≡ length out₀)
+    × (out ≡ sets out₀ 0 (joined sector (slotOf track payloads codes id1 id2)))
 
 abbrev μ-loop : tie.MeasureT-loop
 μ-loop out₀ track payloads codes id1 id2 count at₀ sector₀ out at sector = count - sector
@@ -31,8 +32,12 @@ sectors-per-track-requires c κs = search needs
 -- src/lib.rt:198:5
 loop-holds : tie.Need-loop-holds Inv-loop μ-loop
 loop-holds c =
-    let a = c .before .before .before .before .args in
-    (omega arith, sym (start-zero (zoneOf (a .track))), refl, slots-none (a .track) (a .payloads .now) (a .codes .now) (a .id1) (a .id2) (a .out .now))
+    let a = c .before .before .before .before .args in (
+      omega arith,
+      sym (start-zero (zoneOf (a .track))),
+      refl,
+      slots-none (a .track) (a .payloads .now) (a .codes .now) (a .id1) (a .id2) (a .out .now),
+    )
 
 -- src/lib.rt:199:15
 put-sector-requires : tie.Need-put-sector-requires Inv-loop μ-loop
@@ -49,7 +54,12 @@ add-at c =
     let l = p .before .before .before in
     let k = l .before in
     let t = k .before .before .before .before .args .track in
-    omega (arith, k .sectors-per-track .ensures .0, p .put-sector .ensures .0, slot-end (zoneOf t) (l .loop .sector) (zone-lt t) (omega arith))
+    omega (
+      arith,
+      k .sectors-per-track .ensures .0,
+      p .put-sector .ensures .0,
+      slot-end (zoneOf t) (l .loop .sector) (zone-lt t) (omega arith),
+    )
 
 -- src/lib.rt:200:9
 add-sector : tie.Need-add-sector Inv-loop μ-loop
@@ -69,8 +79,8 @@ loop-again c =
       omega arith,
       rw (add-one j, start-next (zoneOf (a .track)) j) (omega (arith, p .put-sector .ensures .0)),
       p .put-sector .kept .0 ∙ l .loop .inv .2,
-      slots-more (a .track) (a .payloads .now) (a .codes .now) (a .id1) (a .id2) (a .out .now) (l .loop .at) j (l .loop .out) (p .put-sector .last .0)
-          (l .loop .inv .1) (l .loop .inv .3) (p .put-sector .ensures .1),
+      slots-more (a .track) (a .payloads .now) (a .codes .now) (a .id1) (a .id2) (a .out .now)
+          (l .loop .at) j (l .loop .out) (p .put-sector .last .0) (l .loop .inv .1) (l .loop .inv .3) (p .put-sector .ensures .1),
     )
 
 -- src/lib.rt:184:1
@@ -83,7 +93,8 @@ returns c =
     let l = c .before in
     let k = l .before in
     let a = k .before .before .before .before .args in
-    slots-all (a .track) (a .payloads .now) (a .codes .now) (a .id1) (a .id2) (a .out .now) (l .loop .sector) (l .loop .out) (omega (arith, k .sectors-per-track .ensures .0)) (l .loop .inv .3)
+    slots-all (a .track) (a .payloads .now) (a .codes .now) (a .id1) (a .id2) (a .out .now) (l .loop .sector) (l .loop .out)
+    (omega (arith, k .sectors-per-track .ensures .0)) (l .loop .inv .3)
 
 pub put-sectors-spec : {M : Type 1} → statement M
 put-sectors-spec =

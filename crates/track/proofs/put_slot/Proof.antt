@@ -26,7 +26,8 @@ returns c =
     let f = c .before .before in
     let i = f .before .before in
     let a = i .before .before .before .before .args in
-    slot-gap (a .out .now) (a .at) (a .after) (a .code) (a .header .now) (a .body .now) (f .fill .last .0) (i .if1 .taken) (f .fill .ensures)
+    slot-gap (a .out .now) (a .at) (a .code) (a .header .now) (f .fill .last .0) (a .body .now) (a .after)
+    (i .if1 .taken) (f .fill .ensures)
 
 -- src/lib.rt:148:5
 put-front-requires : tie.Need-put-front-requires
@@ -51,8 +52,8 @@ returns-2 c =
     let f = g .before .before .before .before in
     let i = f .before .before in
     let a = i .before .before .before .before .args in
-    slot-put (a .out .now) (a .at) (a .after) (a .code) (a .header .now) (a .body .now) (f .put-front .last .0) (g .put-block .last .0) (i .if1 .left)
-    (f .put-front .ensures) (g .put-block .ensures)
+    slot-put (a .out .now) (a .at) (a .code) (a .header .now) (f .put-front .last .0) (a .body .now) (a .after)
+    (g .put-block .last .0) (i .if1 .left) (f .put-front .ensures) (g .put-block .ensures)
 
 pub put-slot-spec : {M : Type 1} → statement M
 put-slot-spec =

@@ -22,7 +22,9 @@ data-bytes-requires c κs = search needs
 
 -- src/lib.rt:153:1
 returns : tie.Need-returns
-returns c = c .data-bytes .ensures ∙ ap (dataBytes (c .before .before .before .before .args .code)) (c .before .before .payload-of .ensures)
+returns c =
+    c .data-bytes .ensures
+    ∙ ap (dataBytes (c .before .before .before .before .args .code)) (c .before .before .payload-of .ensures)
 
 pub sector-bytes-spec : {M : Type 1} → statement M
 sector-bytes-spec =
