@@ -1,17 +1,14 @@
--- A payload and a data block as the code fills them, and a slot as it is stored piece by piece.
+-- A payload and a data block, as the code fills them from the front.
 -- Assumes nothing.
-use mathlib.Core.Path.{_≡_, refl, sym, ap, _∙_}
-use mathlib.Core.List.{List, [], _∷_, _++_, append-assoc}
-use Prim.Native.Nat.{ℕ, zero, suc, _+_, _-_, _*_, _≤_, _<_}
+use mathlib.Core.Path.{_≡_, sym, ap, _∙_}
+use mathlib.Core.List.{List, [], _∷_, _++_}
+use Prim.Native.Nat.{ℕ, suc, _+_, _-_, _*_, _<_}
 use native.Mathlib.Numerals.{add-one}
 use native.Mathlib.Omega.{arith}
-use lib.ListN.{length, getD, set, take, drop, replicate, length-replicate, length-append}
-use lib.Seq.{take-suc, set-at, length-take-le, take-all, sets, append-snoc}
-use Rattle.base.specs.Lists.{tab, joined}
+use lib.ListN.{length, getD, set, take, drop, replicate}
+use lib.Seq.{take-suc, set-at, length-take-le, take-all, append-snoc}
+use Rattle.base.specs.Lists.{tab}
 use Rattle.base.proofs.Lists.{tab-more, tab-all}
-use Rattle.base.proofs.InRow.{sets-more}
-use Rattle.gcr.specs.Groups.{encode}
-use Rattle.gcr.proofs.EncodeLaws.{length-encode}
 use Rattle.track.specs.Slots.{block, payloadOf}
 
 -- ---- a payload, byte by byte

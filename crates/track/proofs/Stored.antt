@@ -4,13 +4,13 @@
 use mathlib.Core.Path.{_≡_, refl, sym, ap, _∙_}
 use mathlib.Core.Logic.{_≢_}
 use mathlib.Core.Bool.{Bool, true, false}
-use mathlib.Core.List.{List, [], _∷_, _++_, append-assoc}
-use Prim.Native.Nat.{ℕ, zero, suc, _+_, _*_, _%_, _≤_, _<_}
+use mathlib.Core.List.{List, _++_}
+use Prim.Native.Nat.{ℕ, _+_, _*_, _%_, _≤_, _<_}
 use native.Mathlib.Numerals.{add-one}
 use native.Mathlib.Nat.{zero-add}
 use native.Mathlib.Omega.{arith}
 use lib.Dec.{eqb}
-use lib.ListN.{length, drop, replicate, length-append, length-replicate}
+use lib.ListN.{length, replicate}
 use lib.Seq.{sets}
 use Rattle.base.specs.Choice.{pick}
 use Rattle.base.specs.Lists.{joined}
@@ -22,7 +22,6 @@ use Rattle.geometry.specs.Zones.{zoneOf, gapIn, slotSize, slotStart, sectorsOf,
 use Rattle.geometry.proofs.ZoneLaws.{zone-lt, fills, start-zero, start-next}
 use Rattle.gcr.specs.Groups.{encode}
 use Rattle.gcr.proofs.EncodeLaws.{length-encode}
-use Rattle.track.specs.declared.Built.{Built}
 use Rattle.track.specs.declared.Built.the-variants.{Written, Refused}
 use Rattle.track.specs.Blocks.{headerBytes, dataBytes}
 use Rattle.track.specs.Slots.{sync, gap, block, slot, codeOf, payloadOf, slotOf, builtTrack}

@@ -8,23 +8,18 @@ use Rattle.geometry.proofs.track_capacity.Reads as reads
 use Rattle.geometry.proofs.track_capacity.Lts as lts
 use Rattle.geometry.proofs.zone_of.Reads as zone-of-reads
 
--- src/lib.rt:54:16
 zone-of-requires : tie.Need-zone-of-requires
 zone-of-requires c κs = search needs
 
--- src/lib.rt:54:16
 cast-zone : tie.Need-cast-zone
 cast-zone c = search needs
 
--- src/lib.rt:55:5
 mul-result : tie.Need-mul-result
 mul-result c = search needs
 
--- src/lib.rt:55:5
 array-read-result : tie.Need-array-read-result
 array-read-result c = search needs
 
--- src/lib.rt:51:1
 returns : tie.Need-returns
 unfolding capacityIn
 returns c =

@@ -7,17 +7,14 @@ use Rattle.track.proofs.build_track_with_errors.Lts as lts
 use Rattle.geometry.proofs.track_capacity.Reads as track-capacity-reads
 use Rattle.track.proofs.put_sectors.Reads as put-sectors-reads
 
--- src/lib.rt:216:9
 returns : tie.Need-returns
 returns c =
     let a = c .before .before .before .before .args in
     wrong-sum (a .track) (a .payloads .now) (a .codes .now) (a .id1) (a .id2) (a .out .now) (c .if1 .taken)
 
--- src/lib.rt:218:9
 track-capacity-requires : tie.Need-track-capacity-requires
 track-capacity-requires c κs = search needs
 
--- src/lib.rt:220:9
 returns-2 : tie.Need-returns-2
 returns-2 c =
     let k = c .before in
@@ -25,15 +22,12 @@ returns-2 c =
     no-room (a .track) (a .payloads .now) (a .codes .now) (a .id1) (a .id2) (a .out .now)
     (k .before .if1 .left) (k .track-capacity .result) (k .track-capacity .ensures .0) (c .if2 .taken)
 
--- src/lib.rt:222:5
 put-sectors-requires : tie.Need-put-sectors-requires
 put-sectors-requires c κs = search needs
 
--- src/lib.rt:205:1
 same-length : tie.Need-same-length
 same-length c = search needs
 
--- src/lib.rt:205:1
 returns-3 : tie.Need-returns-3
 returns-3 c =
     let p = c .before .before in

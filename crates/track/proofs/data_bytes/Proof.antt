@@ -22,47 +22,36 @@ Inv-loop code payload sum block₀ i₀ block i = (i ≤ 256) × (length block �
 abbrev μ-loop : tie.MeasureT-loop
 μ-loop code payload sum block₀ i₀ block i = 256 - i
 
--- src/lib.rt:79:41
 xor-of-requires : tie.Need-xor-of-requires Inv-loop μ-loop
 xor-of-requires c κs = search needs
 
--- src/lib.rt:79:9
 inverted-if-requires : tie.Need-inverted-if-requires Inv-loop μ-loop
 inverted-if-requires c κs = search needs
 
--- src/lib.rt:81:16
 marker-requires : tie.Need-marker-requires Inv-loop μ-loop
 marker-requires c κs = search needs
 
--- src/lib.rt:81:5
 array-write-block : tie.Need-array-write-block Inv-loop μ-loop
 array-write-block c = search needs
 
--- src/lib.rt:83:5
 loop-holds : tie.Need-loop-holds Inv-loop μ-loop
 loop-holds c = (omega arith, refl, ap (λ (m : ℕ). m ∷ replicate 259 0) (c .marker .ensures))
 
--- src/lib.rt:84:24
 shared-slice-read-block : tie.Need-shared-slice-read-block Inv-loop μ-loop
 shared-slice-read-block c = omega arith
 
--- src/lib.rt:84:15
 add-block : tie.Need-add-block Inv-loop μ-loop
 add-block c = omega arith
 
--- src/lib.rt:84:9
 array-write-block-2 : tie.Need-array-write-block-2 Inv-loop μ-loop
 array-write-block-2 c = omega arith
 
--- src/lib.rt:85:9
 add-i : tie.Need-add-i Inv-loop μ-loop
 add-i c = omega arith
 
--- src/lib.rt:83:5
 loop-less : tie.Need-loop-less Inv-loop μ-loop
 loop-less c = omega arith
 
--- src/lib.rt:83:5
 loop-again : tie.Need-loop-again Inv-loop μ-loop
 loop-again c =
     let l = c .before .before in
@@ -73,11 +62,9 @@ loop-again c =
           (omega arith) (s .pre) (l .loop .inv .2),
     )
 
--- src/lib.rt:87:5
 array-write-block-3 : tie.Need-array-write-block-3 Inv-loop μ-loop
 array-write-block-3 c = omega arith
 
--- src/lib.rt:75:1
 returns : tie.Need-returns Inv-loop μ-loop
 returns c =
     let l = c .before in

@@ -4,11 +4,9 @@ use Rattle.track.proofs.marker.Tie as tie
 use Rattle.track.proofs.marker.Reads as reads
 use Rattle.track.proofs.marker.Lts as lts
 
--- src/lib.rt:69:9
 returns : tie.Need-returns
 returns c = rw (eqb-yes _ 4 (c .if1 .taken))
 
--- src/lib.rt:65:1
 returns-2 : tie.Need-returns-2
 returns-2 c = rw (eqb-no _ 4 (c .if1 .left))
 

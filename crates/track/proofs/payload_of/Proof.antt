@@ -20,35 +20,27 @@ Inv-loop payloads sector payload₀ i₀ payload i =
 abbrev μ-loop : tie.MeasureT-loop
 μ-loop payloads sector payload₀ i₀ payload i = 256 - i
 
--- src/lib.rt:37:5
 loop-holds : tie.Need-loop-holds Inv-loop μ-loop
 loop-holds c = (omega arith, refl, tab-none _ (replicate 256 0))
 
--- src/lib.rt:38:40
 mul-byte-or : tie.Need-mul-byte-or Inv-loop μ-loop
 mul-byte-or c = omega arith
 
--- src/lib.rt:38:40
 add-byte-or : tie.Need-add-byte-or Inv-loop μ-loop
 add-byte-or c = omega arith
 
--- src/lib.rt:38:22
 byte-or-requires : tie.Need-byte-or-requires Inv-loop μ-loop
 byte-or-requires c κs = search needs
 
--- src/lib.rt:38:9
 array-write-payload : tie.Need-array-write-payload Inv-loop μ-loop
 array-write-payload c = omega arith
 
--- src/lib.rt:39:9
 add-i : tie.Need-add-i Inv-loop μ-loop
 add-i c = omega arith
 
--- src/lib.rt:37:5
 loop-less : tie.Need-loop-less Inv-loop μ-loop
 loop-less c = omega arith
 
--- src/lib.rt:37:5
 loop-again : tie.Need-loop-again Inv-loop μ-loop
 loop-again c =
     let l = c .before .before in
@@ -59,7 +51,6 @@ loop-again c =
           (omega arith) (c .byte-or .ensures) (l .loop .inv .2),
     )
 
--- src/lib.rt:31:1
 returns : tie.Need-returns Inv-loop μ-loop
 returns c =
     let l = c .before in

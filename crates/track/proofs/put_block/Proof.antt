@@ -7,39 +7,30 @@ use Rattle.track.proofs.put_block.Lts as lts
 use Rattle.blocks.proofs.encode_groups.Reads as encode-groups-reads
 use Rattle.track.proofs.fill.Reads as fill-reads
 
--- src/lib.rt:119:5
 fill-requires : tie.Need-fill-requires
 fill-requires c κs = search needs
 
--- src/lib.rt:120:32
 add-encode-groups : tie.Need-add-encode-groups
 add-encode-groups c = search needs
 
--- src/lib.rt:120:5
 encode-groups-requires : tie.Need-encode-groups-requires
 encode-groups-requires c κs = search needs
 
--- src/lib.rt:121:15
 add-fill : tie.Need-add-fill
 add-fill c = search needs
 
--- src/lib.rt:121:24
 mul-fill : tie.Need-mul-fill
 mul-fill c = search needs
 
--- src/lib.rt:121:15
 add-fill-2 : tie.Need-add-fill-2
 add-fill-2 c = search needs
 
--- src/lib.rt:121:5
 fill-requires-2 : tie.Need-fill-requires-2
 fill-requires-2 c κs = search needs
 
--- src/lib.rt:114:1
 same-length : tie.Need-same-length
 same-length c = search needs
 
--- src/lib.rt:114:1
 returns : tie.Need-returns
 returns c =
     let f = c .before .before in

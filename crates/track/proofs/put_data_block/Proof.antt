@@ -11,19 +11,15 @@ use Rattle.track.proofs.put_data_block.Lts as lts
 use Rattle.blocks.proofs.encode_block.Reads as encode-block-reads
 use Rattle.track.proofs.data_bytes.Reads as data-bytes-reads
 
--- src/lib.rt:97:17
 data-bytes-requires : tie.Need-data-bytes-requires
 data-bytes-requires c κs = search needs
 
--- src/lib.rt:98:5
 encode-block-requires : tie.Need-encode-block-requires
 encode-block-requires c κs = search needs
 
--- src/lib.rt:92:1
 same-length : tie.Need-same-length
 same-length c = search needs
 
--- src/lib.rt:92:1
 returns : tie.Need-returns
 returns c =
     let e = c .before .before in

@@ -13,43 +13,33 @@ use Rattle.track.proofs.header_bytes.Reads as header-bytes-reads
 use Rattle.track.proofs.put_slot.Reads as put-slot-reads
 use Rattle.track.proofs.sector_bytes.Reads as sector-bytes-reads
 
--- src/lib.rt:175:9
 byte-or-requires : tie.Need-byte-or-requires
 byte-or-requires c κs = search needs
 
--- src/lib.rt:176:18
 header-bytes-requires : tie.Need-header-bytes-requires
 header-bytes-requires c κs = search needs
 
--- src/lib.rt:177:16
 sector-bytes-requires : tie.Need-sector-bytes-requires
 sector-bytes-requires c κs = search needs
 
--- src/lib.rt:178:9
 gap-after-requires : tie.Need-gap-after-requires
 gap-after-requires c κs = search needs
 
--- src/lib.rt:179:29
 slice-aggregate-put-slot : tie.Need-slice-aggregate-put-slot
 slice-aggregate-put-slot c = search needs
 
--- src/lib.rt:179:38
 slice-aggregate-put-slot-2 : tie.Need-slice-aggregate-put-slot-2
 slice-aggregate-put-slot-2 c = search needs
 
--- src/lib.rt:179:5
 put-slot-requires : tie.Need-put-slot-requires
 put-slot-requires c κs = search needs
 
--- src/lib.rt:180:5
 add-result : tie.Need-add-result
 add-result c = search needs
 
--- src/lib.rt:162:1
 same-length : tie.Need-same-length
 same-length c = search needs
 
--- src/lib.rt:162:1
 returns : tie.Need-returns
 returns c =
     let p = c .before .before in

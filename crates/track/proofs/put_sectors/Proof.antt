@@ -1,7 +1,7 @@
 use native.Mathlib.Numerals.{add-one}
 use borrow.Author.Needs.{needs}
-use mathlib.Core.Path.{_≡_, refl, sym, ap, _∙_}
-use Prim.Native.Nat.{ℕ, _+_, _-_, _≤_, _<_}
+use mathlib.Core.Path.{_≡_, refl, sym, _∙_}
+use Prim.Native.Nat.{_-_, _≤_}
 use native.Mathlib.Omega.{arith}
 use lib.ListN.{length}
 use lib.Seq.{sets}
@@ -25,11 +25,9 @@ Inv-loop out₀ track payloads codes id1 id2 count at₀ sector₀ out at sector
 abbrev μ-loop : tie.MeasureT-loop
 μ-loop out₀ track payloads codes id1 id2 count at₀ sector₀ out at sector = count - sector
 
--- src/lib.rt:195:9
 sectors-per-track-requires : tie.Need-sectors-per-track-requires Inv-loop μ-loop
 sectors-per-track-requires c κs = search needs
 
--- src/lib.rt:198:5
 loop-holds : tie.Need-loop-holds Inv-loop μ-loop
 loop-holds c =
     let a = c .before .before .before .before .args in (
@@ -39,7 +37,6 @@ loop-holds c =
       slots-none (a .track) (a .payloads .now) (a .codes .now) (a .id1) (a .id2) (a .out .now),
     )
 
--- src/lib.rt:199:15
 put-sector-requires : tie.Need-put-sector-requires Inv-loop μ-loop
 put-sector-requires c κs =
     let l = c .before .before in
@@ -47,7 +44,6 @@ put-sector-requires c κs =
     let t = k .before .before .before .before .args .track in
     omega (arith, k .sectors-per-track .ensures .0, slot-end (zoneOf t) (l .loop .sector) (zone-lt t) (omega arith))
 
--- src/lib.rt:199:9
 add-at : tie.Need-add-at Inv-loop μ-loop
 add-at c =
     let p = c .before .before in
@@ -61,15 +57,12 @@ add-at c =
       slot-end (zoneOf t) (l .loop .sector) (zone-lt t) (omega arith),
     )
 
--- src/lib.rt:200:9
 add-sector : tie.Need-add-sector Inv-loop μ-loop
 add-sector c = omega arith
 
--- src/lib.rt:198:5
 loop-less : tie.Need-loop-less Inv-loop μ-loop
 loop-less c = omega arith
 
--- src/lib.rt:198:5
 loop-again : tie.Need-loop-again Inv-loop μ-loop
 loop-again c =
     let p = c .before .before in
@@ -83,11 +76,9 @@ loop-again c =
           (l .loop .at) j (l .loop .out) (p .put-sector .last .0) (l .loop .inv .1) (l .loop .inv .3) (p .put-sector .ensures .1),
     )
 
--- src/lib.rt:184:1
 same-length : tie.Need-same-length Inv-loop μ-loop
 same-length c = search needs
 
--- src/lib.rt:184:1
 returns : tie.Need-returns Inv-loop μ-loop
 returns c =
     let l = c .before in

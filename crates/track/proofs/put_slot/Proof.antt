@@ -8,19 +8,15 @@ use Rattle.track.proofs.fill.Reads as fill-reads
 use Rattle.track.proofs.put_block.Reads as put-block-reads
 use Rattle.track.proofs.put_front.Reads as put-front-reads
 
--- src/lib.rt:145:23
 add-fill : tie.Need-add-fill
 add-fill c = search needs
 
--- src/lib.rt:145:9
 fill-requires : tie.Need-fill-requires
 fill-requires c κs = search needs
 
--- src/lib.rt:146:9
 same-length : tie.Need-same-length
 same-length c = search needs
 
--- src/lib.rt:146:9
 returns : tie.Need-returns
 returns c =
     let f = c .before .before in
@@ -29,23 +25,18 @@ returns c =
     slot-gap (a .out .now) (a .at) (a .code) (a .header .now) (f .fill .last .0) (a .body .now) (a .after)
     (i .if1 .taken) (f .fill .ensures)
 
--- src/lib.rt:148:5
 put-front-requires : tie.Need-put-front-requires
 put-front-requires c κs = search needs
 
--- src/lib.rt:149:20
 add-put-block : tie.Need-add-put-block
 add-put-block c = search needs
 
--- src/lib.rt:149:5
 put-block-requires : tie.Need-put-block-requires
 put-block-requires c κs = search needs
 
--- src/lib.rt:138:1
 same-length-2 : tie.Need-same-length-2
 same-length-2 c = search needs
 
--- src/lib.rt:138:1
 returns-2 : tie.Need-returns-2
 returns-2 c =
     let g = c .before .before in
