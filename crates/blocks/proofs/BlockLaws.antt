@@ -66,7 +66,8 @@ module _ (bytes out : List ℕ) (w : ℕ) where
       let g : groupsFor (length bytes) ≡ suc w = omega arith in
       let more = encodeGroup (take 4 (drop (4 * w) (bytes ++ replicate 3 0))) in
       let k : length (encode w bytes ++ more) ≡ 5 * w + 5
-      = length-append (encode w bytes) more ∙ ap₂ (λ (y z : ℕ). y + z) (length-encode w bytes) (length-group (take 4 (drop (4 * w) (bytes ++ replicate 3 0)))) in
+      = length-append (encode w bytes) more ∙ ap₂ (λ (y z : ℕ). y + z) (length-encode w bytes)
+      (length-group (take 4 (drop (4 * w) (bytes ++ replicate 3 0)))) in
       front-more (encode w bytes) more out (5 * w) (length-encode w bytes)
       ∙ front out (encode w bytes ++ more) (5 * w + 5) k h
       ∙ ap (λ (y : List ℕ). y ++ drop (5 * w + 5) out)
@@ -88,7 +89,8 @@ pub padded : (bytes : List ℕ) (i : ℕ) → getD (bytes ++ replicate 3 0) i 0 
 padded = zeros-behind 3
 
 -- the four bytes that are read for a last group
-pub filled : (bytes : List ℕ) (k a b c d : ℕ) → a ≡ getD bytes k 0 → b ≡ getD bytes (k + 1) 0 → c ≡ getD bytes (k + 2) 0 → d ≡ getD bytes (k + 3) 0
+pub filled : (bytes : List ℕ) (k a b c d : ℕ) → a ≡ getD bytes k 0 → b ≡ getD bytes (k + 1) 0 → c ≡ getD bytes (k + 2) 0 → d ≡ getD bytes
+    (k + 3) 0
     → a ∷ b ∷ c ∷ d ∷ [] ≡ window (bytes ++ replicate 3 0) k 0 4
 filled bytes k a b c d e f g h = rw (e, f, g, h, padded bytes k, padded bytes (k + 1), padded bytes (k + 2), padded bytes (k + 3))
 
@@ -119,16 +121,19 @@ module _ (code : List ℕ) (i : ℕ) (room : 5 * i + 5 ≤ length code) (bytes :
   unfolding answer4
   readable-next a b = go (decodeAt x 0 (4 * i)) refl a group refl b
     where
-      go : (d : Decoded) → decodeAt x 0 (4 * i) ≡ d → isReadable d ≡ true → (g : Decoded) → group ≡ g → answer4 g .ok ≡ true → isReadable (decodeAt x 0 (4 * (i + 1))) ≡ true
+      go : (d : Decoded) → decodeAt x 0 (4 * i) ≡ d → isReadable d ≡ true → (g : Decoded) → group ≡ g → answer4 g .ok ≡ true → isReadable
+          (decodeAt x 0 (4 * (i + 1))) ≡ true
       go (Bytes xs) e a (Bytes ys) f b = ap isReadable (more xs ys e f)
       go (Bytes xs) e a (IllegalAt k) f b = absurd (let z : _≡_ {A = ℕ} 0 1 = cc in omega arith)
       go (IllegalAt k) e a g f b = absurd (let z : _≡_ {A = ℕ} 0 1 = cc in omega arith)
 
-  pub readable-stop : (n : ℕ) → i < n → isReadable (decodeAt x 0 (4 * i)) ≡ true → answer4 group .ok ≡ false → isReadable (decodeAt x 0 (4 * n)) ≡ false
+  pub readable-stop : (n : ℕ) → i < n → isReadable (decodeAt x 0 (4 * i)) ≡ true → answer4 group .ok ≡ false → isReadable
+      (decodeAt x 0 (4 * n)) ≡ false
   unfolding answer4
   readable-stop n l a b = go (decodeAt x 0 (4 * i)) refl a group refl b
     where
-      go : (d : Decoded) → decodeAt x 0 (4 * i) ≡ d → isReadable d ≡ true → (g : Decoded) → group ≡ g → answer4 g .ok ≡ false → isReadable (decodeAt x 0 (4 * n)) ≡ false
+      go : (d : Decoded) → decodeAt x 0 (4 * i) ≡ d → isReadable d ≡ true → (g : Decoded) → group ≡ g → answer4 g .ok ≡ false →
+          isReadable (decodeAt x 0 (4 * n)) ≡ false
       go (Bytes xs) e a (IllegalAt k) f b =
           ap isReadable (ap (decodeAt x 0) (omega arith) ∙ decode-stop x 0 (4 * i) xs e 4 k (4 * n - 4 * i - 4) (here (IllegalAt k) f))
       go (Bytes xs) e a (Bytes ys) f b = absurd (let z : _≡_ {A = ℕ} 0 1 = cc in omega arith)
@@ -147,17 +152,21 @@ length-bytes x n b e = ap length (decode-bytes x 0 n b e .1) ∙ length-tab n _
 
 module _ (code out₀ out : List ℕ) (i n : ℕ) (l : i < n) (room : 5 * i + 5 ≤ length code) (bytes : (k : ℕ) → getD code k 0 < 256) where
   pub bytes-next : isReadable (decodeAt (bitIn code) 0 (4 * n)) ≡ true → out ≡ sets out₀ 0 (bytesIn (decodeAt (bitIn code) 0 (4 * i)))
-      → sets out (4 * i) (answer4 (decodeGroup (take 5 (drop (5 * i) code))) .bytes) ≡ sets out₀ 0 (bytesIn (decodeAt (bitIn code) 0 (4 * (i + 1))))
+      → sets out (4 * i) (answer4 (decodeGroup (take 5 (drop (5 * i) code))) .bytes) ≡ sets out₀ 0
+      (bytesIn (decodeAt (bitIn code) 0 (4 * (i + 1))))
   unfolding answer4
   bytes-next a h = go (decodeAt (bitIn code) 0 (4 * i)) refl (prefix (bitIn code) (4 * i) (4 * n) (omega arith) a)
       (decodeGroup (take 5 (drop (5 * i) code))) refl
     where
-      go : (d : Decoded) → decodeAt (bitIn code) 0 (4 * i) ≡ d → isReadable d ≡ true → (g : Decoded) → decodeGroup (take 5 (drop (5 * i) code)) ≡ g
-          → sets out (4 * i) (answer4 (decodeGroup (take 5 (drop (5 * i) code))) .bytes) ≡ sets out₀ 0 (bytesIn (decodeAt (bitIn code) 0 (4 * (i + 1))))
+      go : (d : Decoded) → decodeAt (bitIn code) 0 (4 * i) ≡ d → isReadable d ≡ true → (g : Decoded) → decodeGroup
+          (take 5 (drop (5 * i) code)) ≡ g
+          → sets out (4 * i) (answer4 (decodeGroup (take 5 (drop (5 * i) code))) .bytes) ≡ sets out₀ 0
+          (bytesIn (decodeAt (bitIn code) 0 (4 * (i + 1))))
       go (Bytes xs) e a′ (Bytes ys) f =
           rw (h, e, f, more code i room bytes xs ys e f) (front-more xs ys out₀ (4 * i) (length-bytes (bitIn code) (4 * i) xs e))
       go (Bytes xs) e a′ (IllegalAt k) f =
-          absurd (let z : isReadable (decodeAt (bitIn code) 0 (4 * n)) ≡ false = readable-stop code i room bytes n l (ap isReadable e) (ap (λ (g : Decoded). answer4 g .ok) f) in
+          absurd (let z : isReadable (decodeAt (bitIn code) 0 (4 * n)) ≡ false = readable-stop code i room bytes n l (ap isReadable e)
+          (ap (λ (g : Decoded). answer4 g .ok) f) in
           let w : _≡_ {A = ℕ} 0 1 = cc in omega arith)
       go (IllegalAt k) e a′ g f = absurd (let z : _≡_ {A = ℕ} 0 1 = cc in omega arith)
 

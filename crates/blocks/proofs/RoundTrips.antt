@@ -83,7 +83,8 @@ back xs bytes =
 
 -- ---- and forth
 -- bytes with the same bits are the same
-same-bits : (xs ys : List ℕ) → length xs ≡ length ys → Bytes xs → Bytes ys → ((i : ℕ) → i < 8 * length xs → bitIn xs i ≡ bitIn ys i) → xs ≡ ys
+same-bits : (xs ys : List ℕ) → length xs ≡ length ys → Bytes xs → Bytes ys → ((i : ℕ) → i < 8 * length xs → bitIn xs i ≡ bitIn ys i) → xs
+    ≡ ys
 same-bits xs ys len bx by same =
     ext-getD 0 xs ys len
     (λ k h. by-bits 8 (getD xs k 0) (getD ys k 0) (bx k) (by k)
@@ -168,7 +169,8 @@ joined-bytes (x ∷ xs) ys h g (suc i) = joined-bytes xs ys (λ j. h (suc j)) g 
 bytes-encode : (n : ℕ) (xs : List ℕ) → Bytes (encode n xs)
 unfolding encode
 bytes-encode zero xs i = lit< tt
-bytes-encode (suc n) xs i = joined-bytes (encodeGroup (take 4 xs)) (encode n (drop 4 xs)) (group-byte (take 4 xs)) (bytes-encode n (drop 4 xs)) i
+bytes-encode (suc n) xs i = joined-bytes (encodeGroup (take 4 xs)) (encode n (drop 4 xs)) (group-byte (take 4 xs))
+    (bytes-encode n (drop 4 xs)) i
 
 -- every code that decodes is the code of what it decodes to
 pub forth : (n : ℕ) (code xs : List ℕ) → length code ≡ 5 * n → Bytes code → decodeBlock code ≡ Are xs → encodeBlock xs ≡ code

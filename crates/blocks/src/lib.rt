@@ -68,7 +68,8 @@ fn byte_or_zero(bytes: &[u8], i: usize) -> u8
 
 // The code of a block of any length; a last group of fewer than four bytes is filled up with zeros.
 pub fn encode_gcr_block(bytes: &[u8], out: &mut [u8]) -> Coded
-    ensures { λ r. ⌜ (r ≡ encoded (now (bytes .entry)) (now (out .entry))) × (now (out .exit) ≡ encodedOut (now (bytes .entry)) (now (out .entry))) ⌝ }
+    ensures { λ r. ⌜ (r ≡ encoded (now (bytes .entry)) (now (out .entry))) × (now (out .exit) ≡ encodedOut (now (bytes .entry))
+        (now (out .entry))) ⌝ }
 {
     let whole = bytes.len() / 4;
     if bytes.len() % 4 == 0 {
@@ -89,7 +90,8 @@ pub fn encode_gcr_block(bytes: &[u8], out: &mut [u8]) -> Coded
 // The code of a last group of one to three bytes, after `whole` groups.
 fn put_last(out: &mut [u8], bytes: &[u8], whole: usize)
     requires { ⌜ (5 * whole + 5 ≤ length (now out)) × (4 * whole < length (now bytes)) ⌝ }
-    ensures { λ r. ⌜ now (out .exit) ≡ sets (now (out .entry)) (5 * whole) (encodeGroup (take 4 (drop (4 * whole) (now (bytes .entry) ++ replicate 3 0)))) ⌝ }
+    ensures { λ r. ⌜ now (out .exit) ≡ sets (now (out .entry)) (5 * whole)
+        (encodeGroup (take 4 (drop (4 * whole) (now (bytes .entry) ++ replicate 3 0)))) ⌝ }
 {
     let k = 4 * whole;
     let g = [
@@ -160,7 +162,8 @@ fn decode_groups(code: &[u8], out: &mut [u8], n: usize)
 
 // What a code of whole groups stands for. A symbol outside the table refuses, and then nothing is written.
 pub fn decode_gcr_block(code: &[u8], out: &mut [u8]) -> Coded
-    ensures { λ r. ⌜ (r ≡ decoded (now (code .entry)) (now (out .entry))) × (now (out .exit) ≡ decodedOut (now (code .entry)) (now (out .entry))) ⌝ }
+    ensures { λ r. ⌜ (r ≡ decoded (now (code .entry)) (now (out .entry))) × (now (out .exit) ≡ decodedOut (now (code .entry))
+        (now (out .entry))) ⌝ }
 {
     let n = code.len() / 5;
     if out.len() / 4 < n {

@@ -45,7 +45,8 @@ returns-3 : tie.Need-returns-3
 returns-3 c =
     let a = c .before .before .before .before .before .before .before .before .before .args in
     decode-done (now (a .code)) (now (a .out)) _ (omega arith)
-    (sym (c .before .before .before .before .before .legal-groups .ensures) ∙ not-false _ (c .before .before .before .before .if2 .left)) (c .before .before .decode-groups .ensures)
+    (sym (c .before .before .before .before .before .legal-groups .ensures) ∙ not-false _ (c .before .before .before .before .if2 .left))
+    (c .before .before .decode-groups .ensures)
 
 pub decode-gcr-block-spec : {M : Type 1} → statement M
 decode-gcr-block-spec =

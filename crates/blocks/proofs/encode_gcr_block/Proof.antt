@@ -70,7 +70,8 @@ returns-4 c =
     let w = length (now (a .bytes)) / 4 in
     let more = encodeGroup (take 4 (drop (4 * w) (now (a .bytes) ++ replicate 3 0))) in
     encode-done (now (a .bytes)) (now (a .out)) _ (5 * w + 5) (omega arith) (omega arith)
-    (c .before .before .put-last .ensures ∙ ap (λ (l : List ℕ). sets l (5 * w) more) (c .before .before .before .before .before .before .encode-groups2 .ensures)
+    (c .before .before .put-last .ensures ∙ ap (λ (l : List ℕ). sets l (5 * w) more)
+    (c .before .before .before .before .before .before .encode-groups2 .ensures)
     ∙ encoded-rest (now (a .bytes)) (now (a .out)) w (omega arith) (omega arith) (omega arith))
 
 pub encode-gcr-block-spec : {M : Type 1} → statement M

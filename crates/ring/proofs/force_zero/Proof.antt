@@ -18,7 +18,8 @@ returns c = let a = c .before .before .args in refused-empty (now (a .ring)) (a 
 
 -- src/lib.rt:110:9
 returns-2 : tie.Need-returns-2
-returns-2 c = let a = c .before .before .before .args in refused-long (now (a .ring)) (a .start) (a .«length») (c .before .if1 .left) (omega arith)
+returns-2 c = let a = c .before .before .before .args in refused-long (now (a .ring)) (a .start) (a .«length») (c .before .if1 .left)
+    (omega arith)
 
 -- src/lib.rt:112:16
 mul-bits : tie.Need-mul-bits
@@ -46,7 +47,8 @@ returns-3 c =
     let p : 0 < length (now (a .ring)) = omega arith in
     done (now (a .ring)) (a .start) (a .«length») _ (c .before .before .before .before .before .before .if1 .left) (omega arith)
     (c .before .before .zero-bits .ensures
-    ∙ once-round (now (a .ring)) p (λ k. c .before .before .before .before .before .before .before .slice-known .given k .fits) (a .start) (a .«length») _ (λ l. absurd (omega arith)) (λ l. refl))
+    ∙ once-round (now (a .ring)) p (λ k. c .before .before .before .before .before .before .before .slice-known .given k .fits)
+    (a .start) (a .«length») _ (λ l. absurd (omega arith)) (λ l. refl))
 
 -- src/lib.rt:118:5
 zero-bits-requires-2 : tie.Need-zero-bits-requires-2
@@ -66,7 +68,8 @@ returns-4 c =
     let p : 0 < length (now (a .ring)) = omega arith in
     done (now (a .ring)) (a .start) (a .«length») _ (c .before .before .before .before .before .before .if1 .left) (omega arith)
     (c .before .before .zero-bits2 .ensures
-    ∙ once-round (now (a .ring)) p (λ k. c .before .before .before .before .before .before .before .slice-known .given k .fits) (a .start) (a .«length») _ (λ l. refl) (λ l. absurd (omega arith)))
+    ∙ once-round (now (a .ring)) p (λ k. c .before .before .before .before .before .before .before .slice-known .given k .fits)
+    (a .start) (a .«length») _ (λ l. refl) (λ l. absurd (omega arith)))
 
 pub force-zero-spec : {M : Type 1} → statement M
 force-zero-spec =
