@@ -1,0 +1,3 @@
+pub mod DrawLaws
+pub mod SumLaws
+pub mod FieldLaws

@@ -1,0 +1,3 @@
+pub mod Draw
+pub mod Sum
+pub mod Fields
