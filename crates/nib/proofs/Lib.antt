@@ -1,0 +1,6 @@
+pub mod Spans
+pub mod Best
+pub mod Original
+pub mod Cataloguing
+pub mod Slotting
+pub mod Laying
