@@ -1,7 +1,7 @@
 -- Laws of the slots: each way that the code goes, and where a slot's ring lies in the file.
 --     ring-placed    the ring that `nib_ring` hands back is the part of the file that `nib_slot` names
 -- Assumes nothing.
-use Prim.Native.Nat.{ℕ, _+_, _*_, _%_, _≤_, _<_}
+use Prim.Native.Nat.{ℕ, _+_, _-_, _*_, _≤_, _<_}
 use mathlib.Core.Path.{_≡_, refl, sym, ap, _∙_}
 use mathlib.Core.Bool.{Bool, true, false}
 use mathlib.Core.List.{List, []}
@@ -65,6 +65,13 @@ unfolding entryOf
 held file slot k e = held-by file slot k (catalogueOf file) (ltb 83 slot) refl refl e
 
 -- ---- the ring, the zone, and both
+
+-- the part of the file that the code takes is the window
+pub cut : (file : List ℕ) (k : ℕ)
+    → recovered (take (256 + 8192 * k + 8192 - (256 + 8192 * k)) (drop (256 + 8192 * k) file)) (zoneAt file k) ≡ recovered (windowAt file k) (zoneAt file k)
+cut file k =
+    let w : 256 + 8192 * k + 8192 - (256 + 8192 * k) ≡ 8192 = omega arith in
+    ap (λ (m : ℕ). recovered (take m (drop (256 + 8192 * k) file)) (zoneAt file k)) w
 
 module _ (file : List ℕ) (slot : ℕ) where
   module _ (r : ℕ) (e : entryOf file slot ≡ Refused r) where

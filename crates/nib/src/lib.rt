@@ -78,13 +78,17 @@ pub fn nib_zone(image: &[u8], slot: usize) -> Zone
 pub fn nib_ring(image: &[u8], slot: usize) -> &[u8]
     ensures { λ r. ⌜ now r ≡ ringOf (now (image .entry)) slot ⌝ }
 {
-    let Entry::At(k) = entry_of(image, slot) else {
-        return &image[0..0];
-    };
-    let at = 256 + 8192 * k;
-    let end = at + 8192;
-    let zone = image[17 + 2 * k] % 4;
-    orbit::recover_orbit(&image[at..end], zone)
+    let entry = entry_of(image, slot);
+    match entry {
+        Entry::At(k) => {
+            let at = 256 + 8192 * k;
+            let end = at + 8192;
+            let zone = image[17 + 2 * k] % 4;
+            orbit::recover_orbit(&image[at..end], zone)
+        }
+        Entry::Absent => &image[0..0],
+        Entry::Refused(_) => &image[0..0],
+    }
 }
 
 // Where the ring of a slot starts in the image, its length and its zone.

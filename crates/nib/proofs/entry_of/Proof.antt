@@ -40,10 +40,16 @@ find-code-requires c κs =
     (omega arith, omega arith)
 
 returns-2 : tie.Need-returns-2
-returns-2 c = ?
+returns-2 c =
+    let g = c .before .before .before in
+    let a = g .before .before .args in
+    entry-refused (a .image .now) (a .slot) (c .before .pairs .given .0 .0) (sym (g .read-catalogue .ensures) ∙ c .before .pairs .given .1)
 
 returns-3 : tie.Need-returns-3
-returns-3 c = ?
+returns-3 c =
+    let n = c .before .before .before in
+    let a = n .before .before .before .before .args in
+    c .find-code .ensures ∙ entry-is (a .image .now) (a .slot) (n .pairs2 .given .0 .0) (count-is n) (c .before .if1 .left)
 
 pub entry-of-spec : {M : Type 1} → statement M
 entry-of-spec =

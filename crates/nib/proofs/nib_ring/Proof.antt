@@ -1,89 +1,108 @@
+use Rattle.nib.proofs.Slotting.{Held, held, cut, ring-refused, ring-absent, ring-is}
+use Rattle.nib.specs.Slots.{entryOf}
+use Rattle.nib.specs.declared.Entry.the-variants.{At}
+use mathlib.Core.Path.{_≡_, sym, ap, _∙_}
+use native.Mathlib.Omega.{arith}
+use denote.Ref.{now}
+use lib.ListN.{length}
 use borrow.Author.Needs.{needs}
 use Rattle.nib.proofs.nib_ring.Statement.{statement}
 use Rattle.nib.proofs.nib_ring.Tie as tie
-use Rattle.nib.proofs.nib_ring.Reads as reads
-use Rattle.nib.proofs.nib_ring.Lts as lts
-use Rattle.nib.proofs.entry_of.Reads as entry-of-reads
-use Rattle.nib.proofs.orbit.recover_orbit.Reads as recover-orbit-reads
 
--- src/lib.rt:81:24
+place-is : (c : tie.After-entry)
+    → entryOf (c .before .before .before .before .args .image .now) (c .before .before .before .before .args .slot) ≡ At (c .entry .given .0 .0)
+place-is c = sym (c .before .before .entry-of .ensures) ∙ c .entry .given .1
+
+inside : (c : tie.After-entry) → Held (c .before .before .before .before .args .image .now) (c .entry .given .0 .0)
+inside c = held _ _ _ (place-is c)
+
 entry-of-requires : tie.Need-entry-of-requires
 entry-of-requires c κs = search needs
 
--- src/lib.rt:81:19
-enum-known-k : tie.Need-enum-known-k
-enum-known-k c = search needs
+enum-known-entry : tie.Need-enum-known-entry
+enum-known-entry c = search needs
 
--- src/lib.rt:82:16
-sub-result : tie.Need-sub-result
-sub-result c = search needs
-
--- src/lib.rt:82:16
-part-result-start : tie.Need-part-result-start
-part-result-start c = search needs
-
--- src/lib.rt:82:16
-part-result-end : tie.Need-part-result-end
-part-result-end c = search needs
-
--- src/lib.rt:82:9
-returns : tie.Need-returns
-returns c = ?
-
--- src/lib.rt:84:20
 mul-at : tie.Need-mul-at
-mul-at c = ?
+mul-at c = omega (arith, inside (c .before))
 
--- src/lib.rt:84:14
 add-at : tie.Need-add-at
-add-at c = ?
+add-at c = omega (arith, inside (c .before))
 
--- src/lib.rt:85:15
 add-end : tie.Need-add-end
-add-end c = ?
+add-end c = omega (arith, inside (c .before))
 
--- src/lib.rt:86:27
 mul-zone : tie.Need-mul-zone
-mul-zone c = ?
+mul-zone c = omega (arith, inside (c .before))
 
--- src/lib.rt:86:22
 add-zone : tie.Need-add-zone
-add-zone c = ?
+add-zone c = omega (arith, inside (c .before))
 
--- src/lib.rt:86:16
 shared-slice-read-zone : tie.Need-shared-slice-read-zone
-shared-slice-read-zone c = ?
+shared-slice-read-zone c = omega (arith, inside (c .before .before))
 
--- src/lib.rt:87:26
 sub-recover-orbit : tie.Need-sub-recover-orbit
 sub-recover-orbit c = search needs
 
--- src/lib.rt:87:26
 part-recover-orbit-start : tie.Need-part-recover-orbit-start
 part-recover-orbit-start c = search needs
 
--- src/lib.rt:87:26
 part-recover-orbit-end : tie.Need-part-recover-orbit-end
-part-recover-orbit-end c = ?
+part-recover-orbit-end c = omega (arith, inside (c .before .before))
 
--- src/lib.rt:87:5
 recover-orbit-requires : tie.Need-recover-orbit-requires
 recover-orbit-requires c κs = search needs
 
--- src/lib.rt:78:1
+enum-told : tie.Need-enum-told
+enum-told c = search needs
+
+sub-result : tie.Need-sub-result
+sub-result c = search needs
+
+part-result-start : tie.Need-part-result-start
+part-result-start c = search needs
+
+part-result-end : tie.Need-part-result-end
+part-result-end c = search needs
+
+enum-told-2 : tie.Need-enum-told-2
+enum-told-2 c = search needs
+
+sub-result-2 : tie.Need-sub-result-2
+sub-result-2 c = search needs
+
+part-result-start-2 : tie.Need-part-result-start-2
+part-result-start-2 c = search needs
+
+part-result-end-2 : tie.Need-part-result-end-2
+part-result-end-2 c = search needs
+
+returns : tie.Need-returns
+returns c =
+    let k = c .before .before .before .before in
+    let a = k .before .before .before .before .args in
+    let n = k .entry .given .0 .0 in
+    c .recover-orbit .ensures ∙ cut (a .image .now) n ∙ ring-is (a .image .now) (a .slot) n (place-is k)
+
 returns-2 : tie.Need-returns-2
-returns-2 c = ?
+returns-2 c =
+    let t = c .before in
+    let g = t .before .before in
+    let a = g .before .before .args in
+    ring-absent (a .image .now) (a .slot) (sym (g .entry-of .ensures) ∙ t .enum-told .given .1)
+
+returns-3 : tie.Need-returns-3
+returns-3 c =
+    let t = c .before in
+    let g = t .before .before in
+    let a = g .before .before .args in
+    ring-refused (a .image .now) (a .slot) _ (sym (g .entry-of .ensures) ∙ t .enum-told2 .given .1)
 
 pub nib-ring-spec : {M : Type 1} → statement M
 nib-ring-spec =
     tie.close
     (tie.spec
     entry-of-requires
-    enum-known-k
-    sub-result
-    part-result-start
-    part-result-end
-    returns
+    enum-known-entry
     mul-at
     add-at
     add-end
@@ -94,4 +113,14 @@ nib-ring-spec =
     part-recover-orbit-start
     part-recover-orbit-end
     recover-orbit-requires
-    returns-2)
+    enum-told
+    sub-result
+    part-result-start
+    part-result-end
+    enum-told-2
+    sub-result-2
+    part-result-start-2
+    part-result-end-2
+    returns
+    returns-2
+    returns-3)
