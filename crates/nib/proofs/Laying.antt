@@ -15,7 +15,7 @@ use Rattle.base.specs.Choice.{pick}
 use Rattle.base.specs.Lists.{tab, joined}
 use Rattle.base.specs.Refusals.{wrongSum, ringTooLong, noRing, noRoom}
 use Rattle.base.proofs.Lists.{length-tab, length-joined, joined-next}
-use Rattle.base.proofs.Stores.{put-turn}
+use Rattle.base.proofs.Pieces.{put-turn}
 use Rattle.nib.specs.Encoding.{sumTo, anyLong, ringsTo, pairOf, ringIn, repeated, windowOf, mark, fileOf, sizeOf, filled, encodedOf, outAfter}
 use Rattle.nib.specs.declared.Encoded.the-variants.{Written, Refused}
 

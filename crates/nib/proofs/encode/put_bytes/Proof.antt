@@ -1,4 +1,4 @@
-use Rattle.base.proofs.Stores.{bytes-turn}
+use Rattle.base.proofs.Pieces.{bytes-turn}
 use lib.ListN.{length-set}
 use lib.Seq.{sets, take-length}
 use borrow.Author.Needs.{needs}

@@ -1,4 +1,4 @@
-use Rattle.base.proofs.Stores.{tab-turn}
+use Rattle.base.proofs.Pieces.{tab-turn}
 use Rattle.nib.specs.Encoding.{repeated}
 use Rattle.base.proofs.Lists.{tab-empty}
 use Rattle.base.specs.Lists.{tab}

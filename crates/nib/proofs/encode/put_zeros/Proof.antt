@@ -1,4 +1,4 @@
-use Rattle.base.proofs.Stores.{zeros-turn}
+use Rattle.base.proofs.Pieces.{zeros-turn}
 use lib.ListN.{length-set}
 use lib.Seq.{sets}
 use borrow.Author.Needs.{needs}
