@@ -21,7 +21,8 @@ put-turn l₀ l l′ vs ws base at n e h a f = f ∙ rw (e, a) (sets-more vs ws 
 module _ (l₀ l : List ℕ) (at i : ℕ) where
   pub bytes-turn : (bs : List ℕ) → l ≡ sets l₀ at (take i bs) → i < length bs → set l (at + i) (getD bs i 0) ≡ sets l₀ at (take (i + 1) bs)
   bytes-turn bs e h =
-      put-turn l₀ l (set l (at + i) (getD bs i 0)) (take i bs) (getD bs i 0 ∷ []) at (at + i) i e (length-take-le i bs (omega arith)) refl refl
+      put-turn l₀ l (set l (at + i) (getD bs i 0)) (take i bs) (getD bs i 0 ∷ []) at (at + i) i e (length-take-le i bs (omega arith))
+      refl refl
       ∙ rw (add-one i, take-suc bs i 0 h)
 
   pub zeros-turn : l ≡ sets l₀ at (replicate i 0) → set l (at + i) 0 ≡ sets l₀ at (replicate (i + 1) 0)

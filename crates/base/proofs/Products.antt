@@ -4,7 +4,8 @@
 -- Assumes nothing.
 use Prim.Native.Nat.{ℕ, _*_, _≤_, _<_}
 use mathlib.Core.Path.{_≡_}
-use native.Mathlib.Nat.{mul-right-comm, mul-le-mul-right, mul-le-mul, mul-lt-mul-of-pos-right, le-of-mul-le-mul-right, lt-of-mul-lt-mul-right}
+use native.Mathlib.Nat.{mul-right-comm, mul-le-mul-right, mul-le-mul, mul-lt-mul-of-pos-right}
+use native.Mathlib.Nat.{le-of-mul-le-mul-right, lt-of-mul-lt-mul-right}
 use native.Mathlib.Omega.{arith}
 
 -- r of R is at most q of Q, which is at most p of P

@@ -19,7 +19,8 @@ use borrow.Author.Tests.{eq-eqb, ne-eqb, lt-ltb, eqb-true, ltb-true}
 use Rattle.base.specs.Choice.{pick}
 use Rattle.base.proofs.Tests.{pick-case}
 use Rattle.base.proofs.Products.{le-le, lt-le, le-lt}
-use Rattle.nib.specs.Orbit.{lowest, highest, middle, observations, agreements, estimate, apart, share, better, bestOf, best, chosen, recovered}
+use Rattle.nib.specs.Orbit.{lowest, highest, middle, observations, agreements, estimate, apart}
+use Rattle.nib.specs.Orbit.{share, better, bestOf, best, chosen, recovered}
 use Rattle.nib.specs.declared.Estimate.{Estimate}
 use Rattle.nib.proofs.Spans.{limits}
 
@@ -123,12 +124,14 @@ module _ (m : ℕ) where
   better-yes : (a b : Estimate) → Precedes a b → better m a b ≡ true
   unfolding better Precedes
   better-yes a b h =
-      ranked (a .span) (apart (a .span) m) (a .agreements) (a .observations) (b .span) (apart (b .span) m) (b .agreements) (b .observations) h
+      ranked (a .span) (apart (a .span) m) (a .agreements) (a .observations) (b .span) (apart (b .span) m) (b .agreements)
+      (b .observations) h
 
   better-means : (a b : Estimate) → better m a b ≡ true → Precedes a b
   unfolding better Precedes
   better-means a b h =
-      ranking (a .span) (apart (a .span) m) (a .agreements) (a .observations) (b .span) (apart (b .span) m) (b .agreements) (b .observations) h
+      ranking (a .span) (apart (a .span) m) (a .agreements) (a .observations) (b .span) (apart (b .span) m) (b .agreements)
+      (b .observations) h
 
   -- the larger fraction is better, and what is better has at least as large a fraction
   pub better-larger : (a b : Estimate) → share b a < share a b → better m a b ≡ true
@@ -148,14 +151,16 @@ module _ (m : ℕ) where
   unfolding Precedes
   better-total a b n =
       ⊎-elim (λ h. inl (better-yes a b h)) (λ h. inr (better-yes b a h))
-      (total (a .span) (apart (a .span) m) (a .agreements) (a .observations) (b .span) (apart (b .span) m) (b .agreements) (b .observations) n)
+      (total (a .span) (apart (a .span) m) (a .agreements) (a .observations) (b .span) (apart (b .span) m) (b .agreements)
+      (b .observations) n)
 
   pub better-transitive : (a b c : Estimate) → 0 < a .observations → 0 < b .observations → 0 < c .observations
       → better m a b ≡ true → better m b c ≡ true → better m a c ≡ true
   unfolding Precedes
   better-transitive a b c x y z h k =
       better-yes a c
-      (transitive (a .span) (apart (a .span) m) (a .agreements) (a .observations) (b .span) (apart (b .span) m) (b .agreements) (b .observations)
+      (transitive (a .span) (apart (a .span) m) (a .agreements) (a .observations) (b .span) (apart (b .span) m) (b .agreements)
+      (b .observations)
       (c .span) (apart (c .span) m) (c .agreements) (c .observations) x y z (better-means a b h) (better-means b c k))
 
 -- ---- the best of the spans low to low + n
@@ -205,7 +210,8 @@ module _ (w : List ℕ) (m : ℕ) where
             let z : r ≤ low + n = omega arith in
             ⊎-elim
             (λ i. inr (rw i (ap (better m (estimate w (low + suc n))) (sym told) ∙ e)))
-            (λ i. inr (better-transitive m (estimate w (low + suc n)) t (estimate w r) (omega arith) (omega (arith, seen t told)) (omega arith) e i))
+            (λ i. inr (better-transitive m (estimate w (low + suc n)) t (estimate w r) (omega arith) (omega (arith, seen t told))
+            (omega arith) e i))
             (ih r p z)
       ]
   won low n t told k x y ih false e r p q =
@@ -275,10 +281,13 @@ module _ (w : List ℕ) (zone : ℕ) (h : length w ≡ 8192) (s : ℕ) (p : lowe
       let i = best-within w zone in
       let o : best w zone .observations ≡ observations w (best w zone .span) = ap (λ (x : Estimate). x .observations) (best-is w zone) in
       elim (ℕ-discrete s (best w zone .span)) [
-        | yes e ↦ better-irreflexive (middle zone) (best w zone) (ap (λ (x : Estimate). better (middle zone) x (best w zone)) (best-is w zone ∙ ap (estimate w) (sym e)) ∙ b)
+        | yes e ↦
+            better-irreflexive (middle zone) (best w zone)
+            (ap (λ (x : Estimate). better (middle zone) x (best w zone)) (best-is w zone ∙ ap (estimate w) (sym e)) ∙ b)
         | no n ↦
             better-irreflexive (middle zone) (estimate w s)
-            (better-transitive (middle zone) (estimate w s) (best w zone) (estimate w s) (omega arith) (omega arith) (omega arith) b (best-first n))
+            (better-transitive (middle zone) (estimate w s) (best w zone) (estimate w s) (omega arith) (omega arith) (omega arith) b
+            (best-first n))
       ]
 
   -- ---- the same in plain words, with no order in between

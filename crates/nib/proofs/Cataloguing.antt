@@ -11,7 +11,8 @@ use borrow.Author.Tests.{eq-eqb, ne-eqb, lt-ltb, le-ltb, le-leb, lt-leb, leb-tru
 use Rattle.base.specs.Choice.{pick}
 use Rattle.base.specs.Bytes.{sameBytes}
 use Rattle.base.specs.Refusals.{wrongImage, wrongEntries}
-use Rattle.nib.specs.Catalogue.{signature, isNib, codeAt, pairsFrom, pairs, among, faulty, anyFaulty, catalogueRight, catalogueOf, placeOf}
+use Rattle.nib.specs.Catalogue.{signature, isNib, codeAt, pairsFrom, pairs, among}
+use Rattle.nib.specs.Catalogue.{faulty, anyFaulty, catalogueRight, catalogueOf, placeOf}
 use Rattle.nib.specs.declared.Pairs.the-variants.{Count, Refused}
 use Rattle.nib.specs.declared.Entry.{Entry}
 use Rattle.nib.specs.declared.Entry.the-variants.{Absent, At}
@@ -172,7 +173,9 @@ counted-by true false false true m n e = (refl, cc)
 pub counted : (file : List ℕ) (n : ℕ) → catalogueOf file ≡ Count n → Counted file n
 unfolding catalogueOf catalogueRight
 counted file n e =
-    let w = counted-by (isNib file) (eqb (pairs file) 0) (anyFaulty file (pairs file)) (leb (256 + 8192 * pairs file) (length file)) (pairs file) n e in
+    let w =
+    counted-by (isNib file) (eqb (pairs file) 0) (anyFaulty file (pairs file)) (leb (256 + 8192 * pairs file) (length file)) (pairs file)
+    n e in
     record {
       is = sym (w .1);
       few = omega (arith, pairs-le file, w .1);

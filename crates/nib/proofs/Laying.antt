@@ -16,7 +16,8 @@ use Rattle.base.specs.Lists.{tab, joined}
 use Rattle.base.specs.Refusals.{wrongSum, ringTooLong, noRing, noRoom}
 use Rattle.base.proofs.Lists.{length-tab, length-joined, joined-next}
 use Rattle.base.proofs.Pieces.{put-turn}
-use Rattle.nib.specs.Encoding.{sumTo, anyLong, ringsTo, pairOf, ringIn, repeated, windowOf, mark, fileOf, sizeOf, filled, encodedOf, outAfter}
+use Rattle.nib.specs.Encoding.{sumTo, anyLong, ringsTo, pairOf, ringIn, repeated, windowOf}
+use Rattle.nib.specs.Encoding.{mark, fileOf, sizeOf, filled, encodedOf, outAfter}
 use Rattle.nib.specs.declared.Encoded.the-variants.{Written, Refused}
 
 -- ---- the slots
@@ -129,10 +130,12 @@ module _ (lengths rings : List ℕ) where
   pub window-length : (k : ℕ) → 8192 * ringsTo lengths (suc k) ≡ 8192 * ringsTo lengths k + length (windowOf lengths rings k)
   unfolding ringsTo
   window-length k =
-      window-more (eqb (getD lengths k 0) 0) (repeated (ringIn lengths rings k)) (ringsTo lengths k) (repeated-length (ringIn lengths rings k))
+      window-more (eqb (getD lengths k 0) 0) (repeated (ringIn lengths rings k)) (ringsTo lengths k)
+      (repeated-length (ringIn lengths rings k))
 
   pub windows-length : (k : ℕ) → length (joined k (windowOf lengths rings)) ≡ 8192 * ringsTo lengths k
-  windows-length k = length-joined (windowOf lengths rings) (λ n. 8192 * ringsTo lengths n) (omega (arith, rings-start lengths)) window-length k
+  windows-length k =
+      length-joined (windowOf lengths rings) (λ n. 8192 * ringsTo lengths n) (omega (arith, rings-start lengths)) window-length k
 
 -- ---- each way that the code goes
 
@@ -153,26 +156,32 @@ module _ (lengths zones : List ℕ) (out : List ℕ) (at k : ℕ) where
       let p = pair-one lengths zones k n in
       (rw (add-one at, e) (sym (ap (sets out at) p)), omega (arith, ap length p))
 
-module _ (lengths zones : List ℕ) (out₀ out : List ℕ) (at k : ℕ) (a : at ≡ 16 + 2 * ringsTo lengths k) (e : out ≡ sets out₀ 16 (joined k (pairOf lengths zones))) where
+module _ (lengths zones : List ℕ) (out₀ out : List ℕ) (at k : ℕ) (a : at ≡ 16 + 2 * ringsTo lengths k)
+    (e : out ≡ sets out₀ 16 (joined k (pairOf lengths zones))) where
   pub pairs-turn : (out′ : List ℕ) (at′ : ℕ) → out′ ≡ sets out at (pairOf lengths zones k) → at′ ≡ at + length (pairOf lengths zones k)
       → (at′ ≡ 16 + 2 * ringsTo lengths (k + 1)) × (out′ ≡ sets out₀ 16 (joined (k + 1) (pairOf lengths zones)))
   pairs-turn out′ at′ f b = (
     omega (arith, pair-length lengths zones k, ap (ringsTo lengths) (add-one k)),
-    put-turn out₀ out out′ (joined k (pairOf lengths zones)) (pairOf lengths zones k) 16 at (2 * ringsTo lengths k) e (pairs-length lengths zones k) a f
+    put-turn out₀ out out′ (joined k (pairOf lengths zones)) (pairOf lengths zones k) 16 at (2 * ringsTo lengths k) e
+        (pairs-length lengths zones k) a f
         ∙ ap (sets out₀ 16) (sym (joined-next k (pairOf lengths zones))),
   )
 
-module _ (lengths rings : List ℕ) (out₀ out : List ℕ) (at k : ℕ) (a : at ≡ 256 + 8192 * ringsTo lengths k) (e : out ≡ sets out₀ 256 (joined k (windowOf lengths rings))) where
-  windows-turn : (out′ : List ℕ) → out′ ≡ sets out at (windowOf lengths rings k) → out′ ≡ sets out₀ 256 (joined (k + 1) (windowOf lengths rings))
+module _ (lengths rings : List ℕ) (out₀ out : List ℕ) (at k : ℕ) (a : at ≡ 256 + 8192 * ringsTo lengths k)
+    (e : out ≡ sets out₀ 256 (joined k (windowOf lengths rings))) where
+  windows-turn : (out′ : List ℕ) → out′ ≡ sets out at (windowOf lengths rings k)
+      → out′ ≡ sets out₀ 256 (joined (k + 1) (windowOf lengths rings))
   windows-turn out′ f =
-      put-turn out₀ out out′ (joined k (windowOf lengths rings)) (windowOf lengths rings k) 256 at (8192 * ringsTo lengths k) e (windows-length lengths rings k) a f
+      put-turn out₀ out out′ (joined k (windowOf lengths rings)) (windowOf lengths rings k) 256 at (8192 * ringsTo lengths k) e
+      (windows-length lengths rings k) a f
       ∙ ap (sets out₀ 256) (sym (joined-next k (windowOf lengths rings)))
 
   pub windows-skip : getD lengths k 0 ≡ 0 → out ≡ sets out₀ 256 (joined (k + 1) (windowOf lengths rings))
   windows-skip z = windows-turn out (sym (ap (sets out at) (window-none lengths rings k z)))
 
   pub windows-one : (out′ : List ℕ) (from n : ℕ) → n ≡ getD lengths k 0 → (n ≡ 0 → ⊥) → from ≡ sumTo lengths k
-      → out′ ≡ sets out at (repeated (take (from + n - from) (drop from rings))) → out′ ≡ sets out₀ 256 (joined (k + 1) (windowOf lengths rings))
+      → out′ ≡ sets out at (repeated (take (from + n - from) (drop from rings)))
+      → out′ ≡ sets out₀ 256 (joined (k + 1) (windowOf lengths rings))
   windows-one out′ from n q z s f =
       let w : from + n - from ≡ n = omega arith in
       let p = window-one lengths rings k (λ y. z (q ∙ y)) in
@@ -184,7 +193,8 @@ module _ (lengths zones rings : List ℕ) where
   pub file-length : length (fileOf lengths zones rings) ≡ sizeOf lengths
   unfolding fileOf
   file-length =
-      simp (length-append, length-replicate, pairs-length lengths zones 84, windows-length lengths rings 84) (omega (arith, rings-le lengths 84))
+      simp (length-append, length-replicate, pairs-length lengths zones 84, windows-length lengths rings 84)
+      (omega (arith, rings-le lengths 84))
 
   pub file-done : (out l1 l2 l3 l4 : List ℕ) (at : ℕ) → sizeOf lengths ≤ length out
       → l1 ≡ sets out 0 mark → l2 ≡ sets l1 16 (joined 84 (pairOf lengths zones))
@@ -201,25 +211,31 @@ module _ (lengths zones rings : List ℕ) where
       let s2 : length (mark ++ ps) ≡ 16 + 2 * n = omega (arith, pairs-length lengths zones 84) in
       let s3 : length ((mark ++ ps) ++ zs) ≡ 256 = simp (length-append, pairs-length lengths zones 84, length-replicate) (omega arith) in
       let f2 : l2 ≡ sets out 0 (mark ++ ps) = put-turn out l1 l2 mark ps 0 16 16 e1 refl refl e2 in
-      let f3 : l3 ≡ sets out 0 ((mark ++ ps) ++ zs) = put-turn out l2 l3 (mark ++ ps) zs 0 at (16 + 2 * n) f2 s2 (omega arith) (rw w at e3) in
+      let f3 : l3 ≡ sets out 0 ((mark ++ ps) ++ zs) =
+      put-turn out l2 l3 (mark ++ ps) zs 0 at (16 + 2 * n) f2 s2 (omega arith) (rw w at e3) in
       let f4 : l4 ≡ sets out 0 (((mark ++ ps) ++ zs) ++ ws) = put-turn out l3 l4 ((mark ++ ps) ++ zs) ws 0 256 256 f3 s3 refl e4 in
-      let all : ((mark ++ ps) ++ zs) ++ ws ≡ fileOf lengths zones rings = append-assoc (mark ++ ps) zs ws ∙ append-assoc mark ps (zs ++ ws) in
+      let all : ((mark ++ ps) ++ zs) ++ ws ≡ fileOf lengths zones rings =
+      append-assoc (mark ++ ps) zs ws ∙ append-assoc mark ps (zs ++ ws) in
       let s : 0 + length (fileOf lengths zones rings) ≡ sizeOf lengths = omega (arith, file-length) in
-      f4 ∙ ap (sets out 0) all ∙ sets-eq (fileOf lengths zones rings) out 0 (omega arith) ∙ ap (λ (k : ℕ). fileOf lengths zones rings ++ drop k out) s
+      f4 ∙ ap (sets out 0) all ∙ sets-eq (fileOf lengths zones rings) out 0 (omega arith)
+      ∙ ap (λ (k : ℕ). fileOf lengths zones rings ++ drop k out) s
 
 -- ---- the refusals in their order
 
 module _ (lengths zones rings out : List ℕ) where
-  out-refused : (r : ℕ) → Refused r ≡ encodedOf lengths rings out → (Refused r ≡ encodedOf lengths rings out) × (out ≡ outAfter lengths zones rings out)
+  out-refused : (r : ℕ) → Refused r ≡ encodedOf lengths rings out
+      → (Refused r ≡ encodedOf lengths rings out) × (out ≡ outAfter lengths zones rings out)
   unfolding outAfter
   out-refused r e = (e, rw (← e))
 
-  pub enc-sum : eqb (sumTo lengths 84) (length rings) ≡ false → (Refused wrongSum ≡ encodedOf lengths rings out) × (out ≡ outAfter lengths zones rings out)
+  pub enc-sum : eqb (sumTo lengths 84) (length rings) ≡ false
+      → (Refused wrongSum ≡ encodedOf lengths rings out) × (out ≡ outAfter lengths zones rings out)
   unfolding encodedOf
   enc-sum e = out-refused wrongSum (rw e)
 
   module _ (s : eqb (sumTo lengths 84) (length rings) ≡ true) where
-    pub enc-long : anyLong lengths 84 ≡ true → (Refused ringTooLong ≡ encodedOf lengths rings out) × (out ≡ outAfter lengths zones rings out)
+    pub enc-long : anyLong lengths 84 ≡ true
+        → (Refused ringTooLong ≡ encodedOf lengths rings out) × (out ≡ outAfter lengths zones rings out)
     unfolding encodedOf
     enc-long e = out-refused ringTooLong (rw (s, e))
 
@@ -229,7 +245,8 @@ module _ (lengths zones rings out : List ℕ) where
       enc-none e = out-refused noRing (rw (s, l, ← q, eq-eqb n 0 e))
 
       module _ (z : n ≡ 0 → ⊥) where
-        pub enc-room : length out < 256 + 8192 * n → (Refused noRoom ≡ encodedOf lengths rings out) × (out ≡ outAfter lengths zones rings out)
+        pub enc-room : length out < 256 + 8192 * n
+            → (Refused noRoom ≡ encodedOf lengths rings out) × (out ≡ outAfter lengths zones rings out)
         unfolding encodedOf
         enc-room h = out-refused noRoom (rw (s, l, ← q, ne-eqb n 0 z, lt-ltb (length out) (256 + 8192 * n) h))
 

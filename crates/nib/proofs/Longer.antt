@@ -9,7 +9,8 @@ use lib.ListN.{length, getD, take, drop, length-append, length-drop, List·getD-
 use lib.Seq.{drop-append-le, take-append-le}
 use borrow.Author.Tests.{le-leb}
 use Rattle.nib.specs.Orbit.{chosen, recovered}
-use Rattle.nib.specs.Catalogue.{isNib, codeAt, zoneAt, windowStart, windowAt, pairsFrom, pairs, among, anyFaulty, catalogueRight, catalogueOf, placeOf}
+use Rattle.nib.specs.Catalogue.{isNib, codeAt, zoneAt, windowStart, windowAt, pairsFrom, pairs}
+use Rattle.nib.specs.Catalogue.{among, anyFaulty, catalogueRight, catalogueOf, placeOf}
 use Rattle.nib.specs.Slots.{entryOf, ringBy, ringOf, zoneBy, zoneOf, slotBy, slotOf}
 use Rattle.nib.specs.declared.Pairs.the-variants.{Count}
 use Rattle.nib.specs.declared.Entry.{Entry}

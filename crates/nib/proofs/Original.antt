@@ -1,5 +1,5 @@
--- The search as the Rust has it finds the same span. There it starts with the middle, as if 0 of 1 observations agreed, and a span takes over by the
--- larger fraction, or at an equal one by being nearer the middle; sizes are not compared, since the spans come in order.
+-- The search as the Rust has it finds the same span. There it starts with the middle, as if 0 of 1 observations agreed, and a span
+-- takes over by the larger fraction, or at an equal one by being nearer the middle; sizes are not compared, since the spans come in order.
 --     original-chosen    the span that the Rust takes is the chosen one
 -- Assumes nothing.
 use Prim.Native.Nat.{ℕ, zero, suc, _+_, _-_, _*_, _≤_, _<_}
@@ -14,7 +14,8 @@ use lib.Dec.{eqb, ltb, leb}
 use lib.ListN.{length}
 use borrow.Author.Tests.{eq-eqb, ne-eqb, lt-ltb, le-ltb, le-leb, lt-leb}
 use Rattle.base.specs.Choice.{pick}
-use Rattle.nib.specs.Orbit.{lowest, highest, middle, observations, agreements, estimate, apart, share, better, winner, bestOf, best, chosen}
+use Rattle.nib.specs.Orbit.{lowest, highest, middle, observations, agreements, estimate, apart}
+use Rattle.nib.specs.Orbit.{share, better, winner, bestOf, best, chosen}
 use Rattle.nib.specs.declared.Estimate.{Estimate}
 use Rattle.nib.proofs.Spans.{limits}
 use Rattle.nib.proofs.Best.{better-larger, better-fraction, best-in, best-told}
@@ -51,7 +52,12 @@ module _ (m : ℕ) where
       elim (ℕ-discrete (share a b) (share b a)) [
         | yes f ↦
             elim (ℕ-discrete d e) [
-              | yes q ↦ rw (eq-eqb (share a b) (share b a) f, eq-eqb d e q, le-ltb (a .span) (b .span) (omega arith), le-ltb d e (omega arith))
+              | yes q ↦ rw (
+                eq-eqb (share a b) (share b a) f,
+                eq-eqb d e q,
+                le-ltb (a .span) (b .span) (omega arith),
+                le-ltb d e (omega arith),
+              )
               | no q ↦ rw (eq-eqb (share a b) (share b a) f, ne-eqb d e q)
             ]
         | no f ↦ rw (ne-eqb (share a b) (share b a) f)
@@ -123,8 +129,10 @@ module _ (m : ℕ) where
       ]
   found w low (suc n) h =
       let i = best-in w m low n in
-      let o : bestOf w m low n .observations ≡ observations w (bestOf w m low n .span) = ap (λ (x : Estimate). x .observations) (best-told w m low n) in
-      turn (estimate w (low + suc n)) (bestOf w m low n) (searched w m low (suc n)) (omega (arith, i .1)) (omega arith) (omega (arith, i .1))
+      let o : bestOf w m low n .observations ≡ observations w (bestOf w m low n .span) =
+      ap (λ (x : Estimate). x .observations) (best-told w m low n) in
+      turn (estimate w (low + suc n)) (bestOf w m low n) (searched w m low (suc n)) (omega (arith, i .1)) (omega arith)
+      (omega (arith, i .1))
       (found w low n (omega arith))
 
 -- the span that the Rust takes is the chosen one
@@ -135,7 +143,8 @@ original-chosen w zone h =
     let m = middle zone in
     let t = bestOf w m (lowest zone) (highest zone - lowest zone) in
     let i = best-in w m (lowest zone) (highest zone - lowest zone) in
-    let o : t .observations ≡ observations w (t .span) = ap (λ (x : Estimate). x .observations) (best-told w m (lowest zone) (highest zone - lowest zone)) in
+    let o : t .observations ≡ observations w (t .span) =
+    ap (λ (x : Estimate). x .observations) (best-told w m (lowest zone) (highest zone - lowest zone)) in
     ⊎-elim
     (λ p.
     let z : t .agreements ≡ 0 = p .1 in

@@ -47,7 +47,8 @@ pub record Held (file : List ℕ) (k : ℕ) : Type 0 where
   pub few : k < 120
   pub whole : 256 + 8192 * k + 8192 ≤ length file
 
-held-by : (file : List ℕ) (slot k : ℕ) (p : Pairs) (b : Bool) → ltb 83 slot ≡ b → catalogueOf file ≡ p → entryIn file slot p ≡ At k → Held file k
+held-by : (file : List ℕ) (slot k : ℕ) (p : Pairs) (b : Bool) → ltb 83 slot ≡ b → catalogueOf file ≡ p → entryIn file slot p ≡ At k
+    → Held file k
 held-by file slot k (NoCatalogue r) b g q e = let z : _≡_ {A = ℕ} 0 1 = cc in let w : ⊥ = omega arith in absurd w
 held-by file slot k (Count n) true g q e =
     let f : Refused wrongEntries ≡ At k = sym (ap (λ (c : Bool). pick c (Refused wrongEntries) (placeOf file (slot + 2) n)) g) ∙ e in
@@ -68,7 +69,8 @@ held file slot k e = held-by file slot k (catalogueOf file) (ltb 83 slot) refl r
 
 -- the part of the file that the code takes is the window
 pub cut : (file : List ℕ) (k : ℕ)
-    → recovered (take (256 + 8192 * k + 8192 - (256 + 8192 * k)) (drop (256 + 8192 * k) file)) (zoneAt file k) ≡ recovered (windowAt file k) (zoneAt file k)
+    → recovered (take (256 + 8192 * k + 8192 - (256 + 8192 * k)) (drop (256 + 8192 * k) file)) (zoneAt file k)
+    ≡ recovered (windowAt file k) (zoneAt file k)
 cut file k =
     let w : 256 + 8192 * k + 8192 - (256 + 8192 * k) ≡ 8192 = omega arith in
     ap (λ (m : ℕ). recovered (take m (drop (256 + 8192 * k) file)) (zoneAt file k)) w
@@ -126,11 +128,14 @@ module _ (file : List ℕ) (slot : ℕ) where
         omega arith
 
     -- a ring that was recovered is as long as the chosen span
-    pub slot-is : (n : ℕ) → n ≡ length (recovered (windowAt file k) (zoneAt file k)) → Ring (windowStart k) n (zoneAt file k) ≡ slotOf file slot
+    pub slot-is : (n : ℕ) → n ≡ length (recovered (windowAt file k) (zoneAt file k))
+        → Ring (windowStart k) n (zoneAt file k) ≡ slotOf file slot
     unfolding recovered
     slot-is n q =
         let w = windowAt file k in
-        let m : n ≡ chosen w (zoneAt file k) = q ∙ rw (eq-eqb (length w) 8192 window-whole) (length-take-le (chosen w (zoneAt file k)) w (omega (arith, in-window, window-whole))) in
+        let m : n ≡ chosen w (zoneAt file k) =
+        q ∙ rw (eq-eqb (length w) 8192 window-whole)
+        (length-take-le (chosen w (zoneAt file k)) w (omega (arith, in-window, window-whole))) in
         ap (λ (x : ℕ). Ring (windowStart k) x (zoneAt file k)) m ∙ slot-told
 
     pub ring-at : ringOf file slot ≡ take (chosen (windowAt file k) (zoneAt file k)) (drop (windowStart k) file)
@@ -153,5 +158,6 @@ placed-by file slot (At k) e start span zone q =
     let b : span ≡ chosen (windowAt file k) (zoneAt file k) = cc in
     ring-at file slot k e ∙ rw (a, b)
 
-pub ring-placed : (file : List ℕ) (slot start span zone : ℕ) → Ring start span zone ≡ slotOf file slot → ringOf file slot ≡ take span (drop start file)
+pub ring-placed : (file : List ℕ) (slot start span zone : ℕ) → Ring start span zone ≡ slotOf file slot
+    → ringOf file slot ≡ take span (drop start file)
 ring-placed file slot start span zone q = placed-by file slot (entryOf file slot) refl start span zone q

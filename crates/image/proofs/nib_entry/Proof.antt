@@ -11,7 +11,8 @@ use Rattle.image.proofs.nib_entry.Statement.{statement}
 use Rattle.image.proofs.nib_entry.Tie as tie
 
 place-is : (c : tie.After-entry)
-    → placeOf (c .before .before .before .before .args .image .now) (c .before .before .before .before .args .slot + 2) (c .before .before .before .before .args .n)
+    → placeOf (c .before .before .before .before .args .image .now) (c .before .before .before .before .args .slot + 2)
+    (c .before .before .before .before .args .n)
     ≡ Pair (c .entry .given .0 .0)
 place-is c = sym (c .before .before .find-code .ensures) ∙ c .entry .given .1
 
@@ -59,13 +60,15 @@ returns-2 : tie.Need-returns-2
 returns-2 c =
     let f = c .before .before in
     let s = f .before .before in
-    window-absent (s .args .image .now) (s .args .slot) (s .args .n) (s .pre .1) (omega arith) (sym (f .find-code .ensures) ∙ c .enum-told .given .1)
+    window-absent (s .args .image .now) (s .args .slot) (s .args .n) (s .pre .1) (omega arith)
+    (sym (f .find-code .ensures) ∙ c .enum-told .given .1)
 
 returns-3 : tie.Need-returns-3
 returns-3 c =
     let f = c .before .before in
     let s = f .before .before in
-    window-refused (s .args .image .now) (s .args .slot) (s .args .n) (s .pre .1) (omega arith) _ (sym (f .find-code .ensures) ∙ c .enum-told2 .given .1)
+    window-refused (s .args .image .now) (s .args .slot) (s .args .n) (s .pre .1) (omega arith) _
+    (sym (f .find-code .ensures) ∙ c .enum-told2 .given .1)
 
 pub nib-entry-spec : {M : Type 1} → statement M
 nib-entry-spec =

@@ -26,13 +26,15 @@ returns : tie.Need-returns
 returns c =
     let r = c .before .before in
     let g = r .before .before in
-    c .no-table .ensures ∙ nib-refused (g .before .before .args .image .now) (r .pairs .given .0 .0) (sym (g .read-catalogue .ensures) ∙ r .pairs .given .1)
+    c .no-table .ensures ∙ nib-refused (g .before .before .args .image .now) (r .pairs .given .0 .0)
+    (sym (g .read-catalogue .ensures) ∙ r .pairs .given .1)
 
 returns-2 : tie.Need-returns-2
 returns-2 c =
     let n = c .before .before in
     let g = n .before .before in
-    c .nib-windows .ensures ∙ nib-counted (g .before .before .args .image .now) (n .pairs2 .given .0 .0) (sym (g .read-catalogue .ensures) ∙ n .pairs2 .given .1)
+    c .nib-windows .ensures ∙ nib-counted (g .before .before .args .image .now) (n .pairs2 .given .0 .0)
+    (sym (g .read-catalogue .ensures) ∙ n .pairs2 .given .1)
 
 pub nib-table-spec : {M : Type 1} → statement M
 nib-table-spec =

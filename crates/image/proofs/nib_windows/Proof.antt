@@ -68,7 +68,8 @@ returns : tie.Need-returns Inv-loop μ-loop
 returns c =
     let l = c .before in
     let a = l .before .before .args in
-    table-done (nibEntry (a .image .now)) (l .loop .slot) (l .loop .starts) (l .loop .lengths) (omega arith) (l .loop .inv .3) (l .loop .inv .4)
+    table-done (nibEntry (a .image .now)) (l .loop .slot) (l .loop .starts) (l .loop .lengths) (omega arith) (l .loop .inv .3)
+    (l .loop .inv .4)
 
 pub nib-windows-spec : {M : Type 1} → statement M
 nib-windows-spec =

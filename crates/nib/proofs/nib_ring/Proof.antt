@@ -10,7 +10,8 @@ use Rattle.nib.proofs.nib_ring.Statement.{statement}
 use Rattle.nib.proofs.nib_ring.Tie as tie
 
 place-is : (c : tie.After-entry)
-    → entryOf (c .before .before .before .before .args .image .now) (c .before .before .before .before .args .slot) ≡ At (c .entry .given .0 .0)
+    → entryOf (c .before .before .before .before .args .image .now) (c .before .before .before .before .args .slot)
+    ≡ At (c .entry .given .0 .0)
 place-is c = sym (c .before .before .entry-of .ensures) ∙ c .entry .given .1
 
 inside : (c : tie.After-entry) → Held (c .before .before .before .before .args .image .now) (c .entry .given .0 .0)

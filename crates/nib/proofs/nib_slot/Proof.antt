@@ -10,7 +10,8 @@ use Rattle.nib.proofs.nib_slot.Statement.{statement}
 use Rattle.nib.proofs.nib_slot.Tie as tie
 
 place-is : (c : tie.After-entry)
-    → entryOf (c .before .before .before .before .args .image .now) (c .before .before .before .before .args .slot) ≡ At (c .entry .given .0 .0)
+    → entryOf (c .before .before .before .before .args .image .now) (c .before .before .before .before .args .slot)
+    ≡ At (c .entry .given .0 .0)
 place-is c = sym (c .before .before .entry-of .ensures) ∙ c .entry .given .1
 
 inside : (c : tie.After-entry) → Held (c .before .before .before .before .args .image .now) (c .entry .given .0 .0)
@@ -63,7 +64,8 @@ returns c =
     let k = c .before .before .before .before in
     let a = k .before .before .before .before .args in
     let n = k .entry .given .0 .0 in
-    slot-is (a .image .now) (a .slot) n (place-is k) (length (c .recover-orbit .result .now)) (ap length (c .recover-orbit .ensures ∙ cut (a .image .now) n))
+    slot-is (a .image .now) (a .slot) n (place-is k) (length (c .recover-orbit .result .now))
+    (ap length (c .recover-orbit .ensures ∙ cut (a .image .now) n))
 
 returns-2 : tie.Need-returns-2
 returns-2 c =

@@ -33,13 +33,15 @@ returns : tie.Need-returns Inv-loop μ-loop
 returns c =
     let l = c .before .before .before in
     let a = l .before .before .args in
-    sym (fault-here (a .image .now) (l .loop .k) (omega arith) (faulty-low (a .image .now) (l .loop .k - 1) (c .if1 .taken))) ∙ l .loop .inv .1
+    sym (fault-here (a .image .now) (l .loop .k) (omega arith) (faulty-low (a .image .now) (l .loop .k - 1) (c .if1 .taken)))
+    ∙ l .loop .inv .1
 
 returns-2 : tie.Need-returns-2 Inv-loop μ-loop
 returns-2 c =
     let l = c .before .before .before .before in
     let a = l .before .before .args in
-    sym (fault-here (a .image .now) (l .loop .k) (omega arith) (faulty-high (a .image .now) (l .loop .k - 1) (c .before .if1 .left) (c .if2 .taken))) ∙ l .loop .inv .1
+    sym (fault-here (a .image .now) (l .loop .k) (omega arith)
+    (faulty-high (a .image .now) (l .loop .k - 1) (c .before .if1 .left) (c .if2 .taken))) ∙ l .loop .inv .1
 
 is-among-requires : tie.Need-is-among-requires Inv-loop μ-loop
 is-among-requires c κs = search needs
@@ -50,7 +52,8 @@ returns-3 c =
     let l = k .before .before .before .before .before in
     let a = l .before .before .args in
     sym (fault-here (a .image .now) (l .loop .k) (omega arith)
-    (faulty-again (a .image .now) (l .loop .k - 1) (k .before .before .if1 .left) (k .before .if2 .left) (k .is-among .result) (k .is-among .ensures) ∙ c .if3 .taken)) ∙ l .loop .inv .1
+    (faulty-again (a .image .now) (l .loop .k - 1) (k .before .before .if1 .left) (k .before .if2 .left) (k .is-among .result)
+    (k .is-among .ensures) ∙ c .if3 .taken)) ∙ l .loop .inv .1
 
 loop-less : tie.Need-loop-less Inv-loop μ-loop
 loop-less c = search needs
@@ -62,7 +65,8 @@ loop-again c =
     let a = l .before .before .args in (
       omega arith,
       sym (fault-on (a .image .now) (l .loop .k) (omega arith)
-          (faulty-again (a .image .now) (l .loop .k - 1) (k .before .before .if1 .left) (k .before .if2 .left) (k .is-among .result) (k .is-among .ensures) ∙ c .if3 .left)) ∙ l .loop .inv .1,
+          (faulty-again (a .image .now) (l .loop .k - 1) (k .before .before .if1 .left) (k .before .if2 .left) (k .is-among .result)
+          (k .is-among .ensures) ∙ c .if3 .left)) ∙ l .loop .inv .1,
     )
 
 returns-4 : tie.Need-returns-4 Inv-loop μ-loop

@@ -33,7 +33,8 @@ returns-2 : tie.Need-returns-2
 returns-2 c =
     let k = c .before in
     let s = k .before in
-    file-empty (s .before .before .before .args .image .now) (signed s) (k .count-pairs .result) (k .count-pairs .ensures .0) (c .if2 .taken)
+    file-empty (s .before .before .before .args .image .now) (signed s) (k .count-pairs .result) (k .count-pairs .ensures .0)
+    (c .if2 .taken)
 
 any-faulty-requires : tie.Need-any-faulty-requires
 any-faulty-requires c κs = (c .before .count-pairs .ensures .1, long (c .before .before))
@@ -43,7 +44,8 @@ returns-3 c =
     let f = c .before in
     let k = f .before .before in
     let s = k .before in
-    file-faulty (s .before .before .before .args .image .now) (signed s) (k .count-pairs .result) (k .count-pairs .ensures .0) (f .before .if2 .left)
+    file-faulty (s .before .before .before .args .image .now) (signed s) (k .count-pairs .result) (k .count-pairs .ensures .0)
+    (f .before .if2 .left)
     (sym (f .any-faulty .ensures) ∙ c .if3 .taken)
 
 mul-if4 : tie.Need-mul-if4
@@ -57,7 +59,8 @@ returns-4 c =
     let f = c .before .before in
     let k = f .before .before in
     let s = k .before in
-    file-cut (s .before .before .before .args .image .now) (signed s) (k .count-pairs .result) (k .count-pairs .ensures .0) (f .before .if2 .left)
+    file-cut (s .before .before .before .args .image .now) (signed s) (k .count-pairs .result) (k .count-pairs .ensures .0)
+    (f .before .if2 .left)
     (sym (f .any-faulty .ensures) ∙ c .before .if3 .left) (c .if4 .taken)
 
 returns-5 : tie.Need-returns-5
@@ -65,7 +68,8 @@ returns-5 c =
     let f = c .before .before in
     let k = f .before .before in
     let s = k .before in
-    file-good (s .before .before .before .args .image .now) (signed s) (k .count-pairs .result) (k .count-pairs .ensures .0) (f .before .if2 .left)
+    file-good (s .before .before .before .args .image .now) (signed s) (k .count-pairs .result) (k .count-pairs .ensures .0)
+    (f .before .if2 .left)
     (sym (f .any-faulty .ensures) ∙ c .before .if3 .left) (c .if4 .left)
 
 pub read-catalogue-spec : {M : Type 1} → statement M

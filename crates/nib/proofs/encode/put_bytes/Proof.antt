@@ -37,8 +37,11 @@ loop-less c = search needs
 loop-again : tie.Need-loop-again Inv-loop μ-loop
 loop-again c =
     let l = c .before .before in
-    let a = l .before .args in
-    (omega arith, simp length-set (l .loop .inv .1), bytes-turn (a .out .now) (l .loop .out) (a .at) (l .loop .i) (a .bytes .now) (l .loop .inv .2) (omega arith))
+    let a = l .before .args in (
+      omega arith,
+      simp length-set (l .loop .inv .1),
+      bytes-turn (a .out .now) (l .loop .out) (a .at) (l .loop .i) (a .bytes .now) (l .loop .inv .2) (omega arith),
+    )
 
 same-length : tie.Need-same-length Inv-loop μ-loop
 same-length c = search needs

@@ -14,15 +14,20 @@ use Rattle.nib.proofs.encode.put_pairs.Tie as tie
 
 abbrev Inv-loop : tie.InvT-loop
 Inv-loop out₀ lengths zones at₀ slot₀ out at slot =
-    (slot ≤ 84) × (length out ≡ length out₀) × (at ≡ 16 + 2 * ringsTo lengths slot) × (out ≡ sets out₀ 16 (joined slot (pairOf lengths zones)))
+    (slot ≤ 84) × (length out ≡ length out₀) × (at ≡ 16 + 2 * ringsTo lengths slot)
+    × (out ≡ sets out₀ 16 (joined slot (pairOf lengths zones)))
 
 abbrev μ-loop : tie.MeasureT-loop
 μ-loop out₀ lengths zones at₀ slot₀ out at slot = 84 - slot
 
 loop-holds : tie.Need-loop-holds Inv-loop μ-loop
 loop-holds c =
-    let a = c .before .before .before .args in
-    (omega arith, refl, omega (arith, rings-start (a .lengths .now)), sym (ap (sets (a .out .now) 16) (joined-empty (pairOf (a .lengths .now) (a .zones .now)))))
+    let a = c .before .before .before .args in (
+      omega arith,
+      refl,
+      omega (arith, rings-start (a .lengths .now)),
+      sym (ap (sets (a .out .now) 16) (joined-empty (pairOf (a .lengths .now) (a .zones .now)))),
+    )
 
 put-pair-requires : tie.Need-put-pair-requires Inv-loop μ-loop
 put-pair-requires c κs =
@@ -41,7 +46,9 @@ loop-again c =
     let p = c .before .before .put-pair in
     let l = c .before .before .before .before .before in
     let a = l .before .before .before .before .args in
-    let t = pairs-turn (a .lengths .now) (a .zones .now) (a .out .now) (l .loop .out) (l .loop .at) (l .loop .slot) (l .loop .inv .2) (l .loop .inv .3) (p .last .0) (p .result) (p .ensures .0) (p .ensures .1) in
+    let t =
+    pairs-turn (a .lengths .now) (a .zones .now) (a .out .now) (l .loop .out) (l .loop .at) (l .loop .slot) (l .loop .inv .2)
+    (l .loop .inv .3) (p .last .0) (p .result) (p .ensures .0) (p .ensures .1) in
     (omega arith, p .kept .0 ∙ l .loop .inv .1, t .0, t .1)
 
 same-length : tie.Need-same-length Inv-loop μ-loop

@@ -22,7 +22,11 @@ abbrev μ-loop : tie.MeasureT-loop
 μ-loop out₀ at ring i₀ out i = 8192 - i
 
 loop-holds : tie.Need-loop-holds Inv-loop μ-loop
-loop-holds c = (omega arith, refl, sym (ap (sets (c .args .out .now) (c .args .at)) (tab-empty (λ k. getD (c .args .ring .now) (k % length (c .args .ring .now)) 0))))
+loop-holds c = (
+  omega arith,
+  refl,
+  sym (ap (sets (c .args .out .now) (c .args .at)) (tab-empty (λ k. getD (c .args .ring .now) (k % length (c .args .ring .now)) 0))),
+)
 
 rem-out : tie.Need-rem-out Inv-loop μ-loop
 rem-out c = search needs
@@ -45,8 +49,11 @@ loop-less c = search needs
 loop-again : tie.Need-loop-again Inv-loop μ-loop
 loop-again c =
     let l = c .before .before in
-    let a = l .before .args in
-    (omega arith, simp length-set (l .loop .inv .1), tab-turn (a .out .now) (l .loop .out) (a .at) (l .loop .i) (λ k. getD (a .ring .now) (k % length (a .ring .now)) 0) (l .loop .inv .2))
+    let a = l .before .args in (
+      omega arith,
+      simp length-set (l .loop .inv .1),
+      tab-turn (a .out .now) (l .loop .out) (a .at) (l .loop .i) (λ k. getD (a .ring .now) (k % length (a .ring .now)) 0) (l .loop .inv .2),
+    )
 
 same-length : tie.Need-same-length Inv-loop μ-loop
 same-length c = search needs

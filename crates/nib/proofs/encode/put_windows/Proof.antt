@@ -17,7 +17,8 @@ use Rattle.nib.proofs.encode.put_windows.Tie as tie
 
 abbrev Inv-loop : tie.InvT-loop
 Inv-loop out₀ lengths rings at₀ from₀ slot₀ out at from slot =
-    (slot ≤ 84) × (length out ≡ length out₀) × (from ≡ sumTo lengths slot) × (at ≡ 256 + 8192 * ringsTo lengths slot) × (out ≡ sets out₀ 256 (joined slot (windowOf lengths rings)))
+    (slot ≤ 84) × (length out ≡ length out₀) × (from ≡ sumTo lengths slot) × (at ≡ 256 + 8192 * ringsTo lengths slot)
+    × (out ≡ sets out₀ 256 (joined slot (windowOf lengths rings)))
 
 abbrev μ-loop : tie.MeasureT-loop
 μ-loop out₀ lengths rings at₀ from₀ slot₀ out at from slot = 84 - slot
@@ -45,8 +46,13 @@ room c =
 
 loop-holds : tie.Need-loop-holds Inv-loop μ-loop
 loop-holds c =
-    let a = c .before .before .before .args in
-    (omega arith, refl, sym (sum-start (a .lengths .now)), omega (arith, rings-start (a .lengths .now)), sym (ap (sets (a .out .now) 256) (joined-empty (windowOf (a .lengths .now) (a .rings .now)))))
+    let a = c .before .before .before .args in (
+      omega arith,
+      refl,
+      sym (sum-start (a .lengths .now)),
+      omega (arith, rings-start (a .lengths .now)),
+      sym (ap (sets (a .out .now) 256) (joined-empty (windowOf (a .lengths .now) (a .rings .now)))),
+    )
 
 length-at-requires : tie.Need-length-at-requires Inv-loop μ-loop
 length-at-requires c κs = search needs
@@ -90,7 +96,8 @@ loop-again c =
       ap length (w .6) ∙ w .3 .kept .0 ∙ l .loop .inv .1,
       omega (arith, w .8, sum-next m (l .loop .slot)),
       omega (arith, w .7, rings-one m (l .loop .slot) (λ z. w .0 .taken (e ∙ z))),
-      windows-one m (a .rings .now) (a .out .now) (l .loop .out) (l .loop .at) (l .loop .slot) (l .loop .inv .3) (l .loop .inv .4) (c .if1 .out) (l .loop .from) (k .length-at .result)
+      windows-one m (a .rings .now) (a .out .now) (l .loop .out) (l .loop .at) (l .loop .slot) (l .loop .inv .3) (l .loop .inv .4)
+          (c .if1 .out) (l .loop .from) (k .length-at .result)
           e (w .0 .taken) (l .loop .inv .2) (w .6 ∙ w .3 .ensures),
     ))
     (λ w.
@@ -99,7 +106,8 @@ loop-again c =
       ap length (w .1) ∙ l .loop .inv .1,
       omega (arith, w .3, sum-next m (l .loop .slot)),
       omega (arith, w .2, rings-skip m (l .loop .slot) z),
-      w .1 ∙ windows-skip m (a .rings .now) (a .out .now) (l .loop .out) (l .loop .at) (l .loop .slot) (l .loop .inv .3) (l .loop .inv .4) z,
+      w .1 ∙ windows-skip m (a .rings .now) (a .out .now) (l .loop .out) (l .loop .at) (l .loop .slot) (l .loop .inv .3)
+          (l .loop .inv .4) z,
     ))
     (c .if1 .came)
 

@@ -26,7 +26,15 @@ returns c =
     let k = c .before in
     let l = k .before .before in
     let a = l .before .before .args in
-    let f : sumTo (a .lengths .now) 84 ≡ a .total → ⊥ = λ z. omega (arith, sum-next (a .lengths .now) (l .loop .slot), sum-le (a .lengths .now) 84 (l .loop .slot + 1) (omega arith), k .length-at .ensures, c .if1 .taken, l .loop .inv .1) in
+    let f : sumTo (a .lengths .now) 84 ≡ a .total → ⊥ =
+    λ z. omega (
+      arith,
+      sum-next (a .lengths .now) (l .loop .slot),
+      sum-le (a .lengths .now) 84 (l .loop .slot + 1) (omega arith),
+      k .length-at .ensures,
+      c .if1 .taken,
+      l .loop .inv .1,
+    ) in
     sym (ne-eqb (sumTo (a .lengths .now) 84) (a .total) f)
 
 add-slot : tie.Need-add-slot Inv-loop μ-loop

@@ -45,8 +45,16 @@ loop-again c =
     let l = c .before .before .before .before in
     let a = l .before .args in
     ⊎-elim
-    (λ w. (omega arith, omega arith, w .1 ∙ agree-yes (a .window .now) (a .span) (l .loop .i) (l .loop .count) (l .loop .inv .2) (w .0 .taken)))
-    (λ w. (omega arith, omega arith, w .1 ∙ agree-no (a .window .now) (a .span) (l .loop .i) (l .loop .count) (l .loop .inv .2) (w .0 .left)))
+    (λ w. (
+      omega arith,
+      omega arith,
+      w .1 ∙ agree-yes (a .window .now) (a .span) (l .loop .i) (l .loop .count) (l .loop .inv .2) (w .0 .taken),
+    ))
+    (λ w. (
+      omega arith,
+      omega arith,
+      w .1 ∙ agree-no (a .window .now) (a .span) (l .loop .i) (l .loop .count) (l .loop .inv .2) (w .0 .left),
+    ))
     (c .if1 .came)
 
 returns : tie.Need-returns Inv-loop μ-loop

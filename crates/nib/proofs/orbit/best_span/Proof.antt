@@ -21,8 +21,13 @@ estimate-requires c κs = search needs
 loop-holds : tie.Need-loop-holds Inv-loop μ-loop
 loop-holds c =
     let s = c .before .before in
-    let g = c .estimate in
-    (omega arith, omega arith, g .ensures .1, g .ensures .2, best-start (s .args .window .now) (s .args .middle) (s .args .low) (s .args .low) refl (g .result) (g .ensures .0))
+    let g = c .estimate in (
+      omega arith,
+      omega arith,
+      g .ensures .1,
+      g .ensures .2,
+      best-start (s .args .window .now) (s .args .middle) (s .args .low) (s .args .low) refl (g .result) (g .ensures .0),
+    )
 
 add-span : tie.Need-add-span Inv-loop μ-loop
 add-span c = search needs
@@ -48,7 +53,8 @@ loop-again c =
       omega arith,
       g .ensures .1,
       g .ensures .2,
-      best-changes (a .window .now) (a .middle) (a .low) (l .loop .span) (g .result) (l .loop .best) (l .loop .inv .0) (l .loop .inv .4) (g .ensures .0)
+      best-changes (a .window .now) (a .middle) (a .low) (l .loop .span) (g .result) (l .loop .best) (l .loop .inv .0) (l .loop .inv .4)
+          (g .ensures .0)
           (sym (c .before .is-better .ensures) ∙ c .if1 .taken),
     )
 
@@ -64,7 +70,8 @@ loop-again-2 c =
       omega arith,
       l .loop .inv .2,
       l .loop .inv .3,
-      best-stays (a .window .now) (a .middle) (a .low) (l .loop .span) (g .result) (l .loop .best) (l .loop .inv .0) (l .loop .inv .4) (g .ensures .0)
+      best-stays (a .window .now) (a .middle) (a .low) (l .loop .span) (g .result) (l .loop .best) (l .loop .inv .0) (l .loop .inv .4)
+          (g .ensures .0)
           (sym (c .before .is-better .ensures) ∙ c .if1 .left),
     )
 

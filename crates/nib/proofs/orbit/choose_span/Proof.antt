@@ -45,7 +45,8 @@ returns c =
     let s = b .before .before in
     let z = s .args .zone in
     let l = limits z in (
-      choose-middle (s .args .window .now) z (lowest z) (highest z) (middle z) refl refl refl (b .best-span .result) (b .best-span .ensures .0) (c .if1 .taken),
+      choose-middle (s .args .window .now) z (lowest z) (highest z) (middle z) refl refl refl (b .best-span .result)
+          (b .best-span .ensures .0) (c .if1 .taken),
       omega arith,
     )
 
@@ -57,7 +58,9 @@ returns-2 c =
     let z = s .args .zone in
     let l = limits z in
     let i = chosen-within (s .args .window .now) z in
-    let e = choose-best (s .args .window .now) z (lowest z) (highest z) (middle z) refl refl refl (b .best-span .result) (b .best-span .ensures .0) (c .if1 .left) in
+    let e =
+    choose-best (s .args .window .now) z (lowest z) (highest z) (middle z) refl refl refl (b .best-span .result)
+    (b .best-span .ensures .0) (c .if1 .left) in
     (e, omega (arith, e))
 
 pub choose-span-spec : {M : Type 1} → statement M

@@ -13,8 +13,11 @@ sub-t4 c = search needs
 
 returns : tie.Need-returns
 returns c =
-    let s = c .before .before in
-    (estimate-is (s .args .window .now) (s .args .span) (c .agreements .result) (s .pre .0) (c .agreements .ensures .0), omega arith, omega arith)
+    let s = c .before .before in (
+      estimate-is (s .args .window .now) (s .args .span) (c .agreements .result) (s .pre .0) (c .agreements .ensures .0),
+      omega arith,
+      omega arith,
+    )
 
 pub estimate-spec : {M : Type 1} → statement M
 estimate-spec = tie.close (tie.spec agreements-requires sub-t4 returns)

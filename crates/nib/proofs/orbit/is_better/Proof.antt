@@ -26,7 +26,8 @@ returns c =
     let e = c .before .before .before in
     let t = e .before .before in
     let a = t .before .before .before .before .before .args in
-    ranks-by-size (a .middle) (a .a) (a .b) (t .if1 .taken) (e .before .apart .result) (e .apart2 .result) (e .before .apart .ensures) (e .apart2 .ensures)
+    ranks-by-size (a .middle) (a .a) (a .b) (t .if1 .taken) (e .before .apart .result) (e .apart2 .result) (e .before .apart .ensures)
+    (e .apart2 .ensures)
     (c .before .before .if2 .taken)
 
 returns-2 : tie.Need-returns-2
@@ -34,7 +35,8 @@ returns-2 c =
     let e = c .before in
     let t = e .before .before in
     let a = t .before .before .before .before .before .args in
-    ranks-by-middle (a .middle) (a .a) (a .b) (t .if1 .taken) (e .before .apart .result) (e .apart2 .result) (e .before .apart .ensures) (e .apart2 .ensures)
+    ranks-by-middle (a .middle) (a .a) (a .b) (t .if1 .taken) (e .before .apart .result) (e .apart2 .result) (e .before .apart .ensures)
+    (e .apart2 .ensures)
     (c .if2 .left)
 
 returns-3 : tie.Need-returns-3
