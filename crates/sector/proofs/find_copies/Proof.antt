@@ -80,7 +80,8 @@ loop-again c =
     let s = l .before .before .before in
     let a = s .args in
     rw (c .with-record .ensures)
-    (search-goes-on (a .ring .now) (a .track) (a .sector) (l .loop .seen) (l .loop .bit) (l .loop .inv) (s .pre .small) _ (is-next (c .before)))
+    (search-goes-on (a .ring .now) (a .track) (a .sector) (l .loop .seen) (l .loop .bit) (l .loop .inv)
+    (s .pre .small) _ (is-next (c .before)))
 
 pub find-copies-spec : {M : Type 1} → statement M
 find-copies-spec =
