@@ -1,0 +1,46 @@
+-- A group where it stands among bits: decoding its five bytes is decoding the symbols that stand there.
+-- Assumes nothing.
+use mathlib.Core.Path.{_≡_, refl, sym, ap, _∙_, subst}
+use mathlib.Core.List.{List}
+use Prim.Native.Nat.{ℕ, _+_, _*_, _≤_, _<_}
+use native.Mathlib.Omega.{arith}
+use lib.Dec.{lit<}
+use lib.ListN.{length, getD, take, drop}
+use Rattle.base.specs.Bits.{bitIn, gather, bytesAt}
+use Rattle.base.specs.Digits.{number, digits}
+use Rattle.base.specs.Lists.{tab}
+use Rattle.base.proofs.BitLaws.{bit-lt}
+use Rattle.base.proofs.DigitLaws.{below-tab, digits-number}
+use Rattle.base.proofs.Gathered.{Bits, gather-lt, chunks, bytes-there}
+use Rattle.base.proofs.Lists.{length-tab, tab-same}
+use Rattle.gcr.specs.Symbols.{fromSymbols}
+use Rattle.gcr.specs.Groups.{decodeGroup}
+use Rattle.gcr.specs.Places.{symbolAt, decodeAt}
+
+module _ (x : ℕ → ℕ) where
+  pub gather-symbol : (q : ℕ) → gather x q 5 ≡ symbolAt x q
+  unfolding gather
+  gather-symbol q = let e : x (q + 0) ≡ x q = ap x (omega arith) in omega arith
+
+  abbrev five : ℕ → ℕ → ℕ
+  five p k = gather x (p + 5 * k) 5
+
+  symbols-at : Bits x → (p : ℕ) → digits 32 8 (number 256 0 (bytesAt x p 5)) ≡ tab 8 (λ k. symbolAt x (p + 5 * k))
+  symbols-at b p =
+      let v : number 256 0 (bytesAt x p 5) ≡ number 32 0 (tab 8 (five p)) = chunks x p 8 5 ∙ sym (chunks x p 5 8) in
+      ap (digits 32 8) v
+      ∙ subst (λ (n : ℕ). digits 32 n (number 32 0 (tab 8 (five p))) ≡ tab 8 (five p)) (length-tab 8 (five p))
+      (digits-number 32 (lit< tt) 0 (tab 8 (five p)) (below-tab 32 8 (five p) (λ k. gather-lt x b (p + 5 * k) 5)))
+      ∙ tab-same 8 (five p) (λ k. symbolAt x (p + 5 * k)) (λ k l. gather-symbol (p + 5 * k))
+
+  pub group-at : Bits x → (p : ℕ) → decodeGroup (bytesAt x p 5) ≡ decodeAt x p 4
+  unfolding decodeGroup decodeAt
+  group-at b p = ap fromSymbols (symbols-at b p)
+
+-- group i of a list of bytes
+pub group-in : (code : List ℕ) (i : ℕ) → 5 * i + 5 ≤ length code → ((k : ℕ) → getD code k 0 < 256)
+    → decodeGroup (take 5 (drop (5 * i) code)) ≡ decodeAt (bitIn code) (40 * i) 4
+group-in code i h bytes =
+    let e : 8 * (5 * i) ≡ 40 * i = omega arith in
+    ap decodeGroup (sym (bytes-there code (5 * i) 5 h bytes))
+    ∙ group-at (bitIn code) (bit-lt code) (8 * (5 * i)) ∙ ap (λ (y : ℕ). decodeAt (bitIn code) y 4) e
