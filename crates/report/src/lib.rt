@@ -1,5 +1,8 @@
-// Pieces of a line, written to standard output. No contract can say what is written: a program's stored output does.
+// Rows read from standard input, and pieces of lines written to standard output. No contract can say what is read or
+// written: a program's stored input and output do.
+use libc::STDIN_FILENO;
 use libc::STDOUT_FILENO;
+use replay::Row;
 
 pub fn words(bytes: &[u8]) {
     io::write_all(STDOUT_FILENO, bytes);
@@ -21,4 +24,30 @@ pub fn sum(s: u32) {
 
 pub fn end_line() {
     words(b"\n");
+}
+
+// A refusal, with no end of line: its number.
+pub fn refused(n: u8) {
+    words(b"refused");
+    number(n as u64);
+}
+
+pub enum Input {
+    Next(Row),
+    Heading,
+    End,
+}
+
+// The next row; a heading is copied to the output.
+pub fn next_row() -> Input {
+    let mut bytes = [0u8; 56];
+    let n = io::read_full(STDIN_FILENO, &mut bytes);
+    if n < 56 {
+        return Input::End;
+    }
+    if bytes[0] == b'#' {
+        words(&bytes);
+        return Input::Heading;
+    }
+    Input::Next(replay::row_of(&bytes))
 }

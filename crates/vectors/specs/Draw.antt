@@ -15,7 +15,7 @@ stateAfter seed zero = seed
 stateAfter seed (suc k) = stepped (stateAfter seed k)
 
 -- the byte that a state stands for: its highest
-abbrev pub byteOf : ℕ → ℕ
+unfoldable pub byteOf : ℕ → ℕ
 byteOf state = state / 2 ^ 24
 
 -- the n bytes that follow a seed

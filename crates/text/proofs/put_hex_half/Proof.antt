@@ -1,4 +1,3 @@
-use Prim.Native.Nat.{_/_}
 use borrow.Author.Needs.{needs}
 use native.Mathlib.Omega.{arith}
 use Rattle.text.proofs.HexLaws.{length-hex}
@@ -18,7 +17,8 @@ cast-put-hex-2 c = search needs
 put-hex-requires-2 : tie.Need-put-hex-requires-2
 put-hex-requires-2 c κs =
     let p = c .before .before .before .put-hex in
-    omega (arith, p .ensures .next, length-hex 2 (c .before .before .before .before .before .before .args .n / 256), p .kept .0)
+    let e = rw length-hex at (p .ensures .next) in
+    omega (arith, p .kept .0)
 
 same-length : tie.Need-same-length
 same-length c = search needs

@@ -1,4 +1,3 @@
-use Prim.Native.Nat.{_/_}
 use borrow.Author.Needs.{needs}
 use native.Mathlib.Omega.{arith}
 use Rattle.text.proofs.HexLaws.{length-hex}
@@ -18,7 +17,8 @@ cast-put-hex-half-2 c = search needs
 put-hex-half-requires-2 : tie.Need-put-hex-half-requires-2
 put-hex-half-requires-2 c κs =
     let p = c .before .before .before .put-hex-half in
-    omega (arith, p .ensures .next, length-hex 4 (c .before .before .before .before .before .before .args .n / 65536), p .kept .0)
+    let e = rw length-hex at (p .ensures .next) in
+    omega (arith, p .kept .0)
 
 same-length : tie.Need-same-length
 same-length c = search needs
