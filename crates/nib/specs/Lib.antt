@@ -1,0 +1,4 @@
+pub mod Orbit
+pub mod Catalogue
+pub mod Slots
+pub mod Encoding
