@@ -1,0 +1,25 @@
+use Rattle.reclaim.specs.Marks.{markPlace}
+use mathlib.Core.Path.{_≡_, refl, sym, ap, _∙_}
+use mathlib.Core.Bool.{Bool, true, false}
+use Prim.Native.Nat.{ℕ, _+_, _*_, _-_, _≤_, _<_}
+use native.Mathlib.Omega.{arith}
+use borrow.Author.Needs.{needs}
+use lib.ListN.{length, getD, take, drop, set, replicate, length-set}
+use Rattle.reclaim.proofs.directory.mark_place.Statement.{statement}
+use Rattle.reclaim.proofs.directory.mark_place.Tie as tie
+
+sub-result : tie.Need-sub-result
+sub-result c = search needs
+
+mul-result : tie.Need-mul-result
+mul-result c = search needs
+
+add-result : tie.Need-add-result
+add-result c = search needs
+
+returns : tie.Need-returns
+unfolding markPlace
+returns c = omega arith
+
+pub mark-place-spec : {M : Type 1} → statement M
+mark-place-spec = tie.close (tie.spec sub-result mul-result add-result returns)
