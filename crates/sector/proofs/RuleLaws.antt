@@ -1,0 +1,116 @@
+-- The rules by what the search found: reading, and replacing.
+--     unique-read, consistent-read    what the code makes of a search is what reading answers
+--     small-places                    the places found are small
+--     refused-by, rewritten-by        replacing: refused, and not
+-- Assumes nothing.
+use mathlib.Core.Path.{_≡_, refl, sym, ap, _∙_, subst}
+use mathlib.Core.Bool.{Bool, true, false}
+use mathlib.Core.List.{List, [], _∷_, _++_}
+use Prim.Native.Nat.{ℕ, zero, suc, _+_, _-_, _*_, _≤_, _<_}
+use native.Mathlib.Omega.{arith}
+use lib.Dec.{eqb, ltb}
+use lib.ListN.{length, getD, take, drop, replicate, length-append, length-map, length-drop}
+use lib.Seq.{take-at}
+use borrow.Author.Tests.{ne-eqb, lt-ltb, le-ltb}
+use Rattle.base.specs.Choice.{pick}
+use Rattle.base.specs.Refusals.{noRecord, ambiguous}
+use Rattle.ring.specs.Bit.{IsRing, bits, bitAt}
+use Rattle.scan.specs.declared.SectorRecord.{SectorRecord}
+use Rattle.scan.proofs.ScanLaws.{Every, few-records}
+use Rattle.scan.proofs.EachRecord.{each-next}
+use Rattle.sector.specs.declared.Sector.{Sector}
+use Rattle.sector.specs.declared.Replaced.{Replaced}
+use Rattle.sector.specs.declared.Replaced.the-variants.{Written, Refused}
+use Rattle.sector.specs.declared.Copies.{Copies}
+use Rattle.sector.specs.Rules.{good, refused, recordsIn, recordsFor, unique, consistent, readBy}
+use Rattle.sector.specs.Replacing.{dataBlock, writtenAt, placesIn, replacedBy, answerOf}
+use Rattle.sector.specs.Copies.{firstPayload, allEqual, placesOf, copiesOf, copiesIn, uniqueOf, consistentOf, SmallPlaces}
+use Rattle.sector.proofs.SectorLaws.{read-scanned}
+use Rattle.sector.proofs.CopiesLaws.{whole, few-for}
+
+-- ---- the rules by a search are the rules by the records
+some-not-none : (n : ℕ) → eqb (suc n) 0 ≡ false
+some-not-none n = ne-eqb (suc n) 0 (λ z. omega arith)
+
+unique-by : (own : List SectorRecord)
+    → pick (eqb (length own) 0) (refused noRecord) (pick (ltb 1 (length own)) (refused ambiguous) (good (firstPayload own))) ≡ unique own
+unfolding unique
+unique-by [] = refl
+unique-by (r ∷ []) = refl
+unique-by (r ∷ q ∷ l) = rw (some-not-none (suc (length l)), lt-ltb 1 (suc (suc (length l))) (omega arith))
+
+consistent-by : (own : List SectorRecord)
+    → pick (eqb (length own) 0) (refused noRecord) (pick (allEqual own) (good (firstPayload own)) (refused ambiguous)) ≡ consistent own
+unfolding consistent
+consistent-by [] = refl
+consistent-by (r ∷ l) = rw (some-not-none (length l))
+
+module _ (ring : List ℕ) (track sector : ℕ) (is : IsRing ring) (found : Copies) (e : found ≡ copiesIn sector (recordsIn ring track)) where
+  few : length (recordsIn ring track) ≤ 195
+  few = few-records ring track 0 (is .small)
+
+  pub unique-read : uniqueOf found ≡ readBy unique ring track sector
+  unfolding uniqueOf
+  unique-read =
+      ap uniqueOf e ∙ rw (le-ltb 195 (length (recordsIn ring track)) few) (unique-by (recordsFor sector (recordsIn ring track)))
+      ∙ sym (read-scanned unique ring track sector is)
+
+  pub consistent-read : consistentOf found ≡ readBy consistent ring track sector
+  unfolding consistentOf
+  consistent-read =
+      ap consistentOf e ∙ rw (le-ltb 195 (length (recordsIn ring track)) few) (consistent-by (recordsFor sector (recordsIn ring track)))
+      ∙ sym (read-scanned consistent ring track sector is)
+
+-- ---- the places found
+every-for : (P : SectorRecord → Type 0) (sector : ℕ) (rs : List SectorRecord) → Every P rs → Every P (recordsFor sector rs)
+unfolding recordsFor
+every-for P sector [] t = tt
+every-for P sector (r ∷ rs) t = by (eqb (r .sector) sector) (every-for P sector rs (t .1))
+  where
+    by : (b : Bool) → Every P (recordsFor sector rs) → Every P (pick b (r ∷ recordsFor sector rs) (recordsFor sector rs))
+    by true q = (t .0, q)
+    by false q = q
+
+every-place : (n : ℕ) (own : List SectorRecord) (more : List ℕ) → Every (λ r. r .place < n) own
+    → (i : ℕ) → i < length own → getD (placesIn own ++ more) i 0 < n
+every-place n [] more t i h = absurd (omega arith)
+every-place n (r ∷ own) more t zero h = t .0
+every-place n (r ∷ own) more t (suc i) h = every-place n own more (t .1) i (omega arith)
+
+all-near : (ring : List ℕ) (track : ℕ) → length ring ≤ 65535 → Every (λ r. r .place < 2000000) (recordsIn ring track)
+all-near ring track h =
+    subst (Every (λ r. r .place < 2000000)) (whole ring track)
+    (each-next (bitAt ring) track (bits ring) (λ r. r .place < 2000000) (λ b r i. omega (arith, i .near)) 0)
+
+pub small-places : (ring : List ℕ) (track sector : ℕ) → IsRing ring → (found : Copies) → found ≡ copiesIn sector (recordsIn ring track)
+    → SmallPlaces (found .count) (found .places)
+small-places ring track sector is found e =
+    let own : List SectorRecord = recordsFor sector (recordsIn ring track) in
+    let few : length own ≤ 195 = omega (arith, few-for sector (recordsIn ring track), few-records ring track 0 (is .small)) in
+    subst (λ (c : Copies). SmallPlaces (c .count) (c .places)) (sym e)
+    (record {
+      fits = simp (length-append, length-map, length-drop) (omega arith);
+      small = every-place 2000000 own _ (every-for _ sector (recordsIn ring track) (all-near ring track (is .small)));
+    })
+
+-- ---- replacing
+the-places : (rs own : List SectorRecord) → take (copiesOf rs own .count) (copiesOf rs own .places) ≡ placesIn own
+the-places rs own = take-at (placesIn own) (drop (length own) (replicate 195 0)) (length own) (length-map own (λ r. r .place))
+
+module _ (rule : List SectorRecord → Sector) (ring : List ℕ) (track sector : ℕ) (payload : List ℕ) where
+  pub refused-by : (n : ℕ) → readBy rule ring track sector ≡ refused n
+      → (Refused n ≡ answerOf (readBy rule ring track sector)) × (ring ≡ replacedBy rule track sector payload ring)
+  unfolding answerOf replacedBy
+  refused-by n e = (rw e, rw e)
+
+  pub rewritten-by : (found : Copies) → found ≡ copiesIn sector (recordsIn ring track)
+      → (answer : Sector) → answer ≡ readBy rule ring track sector
+      → (r : Replaced) (after : List ℕ) → r ≡ answerOf answer
+      → after ≡ pick (answer .ok) (writtenAt (take (found .count) (found .places)) (dataBlock payload) ring) ring
+      → (r ≡ answerOf (readBy rule ring track sector)) × (after ≡ replacedBy rule track sector payload ring)
+  unfolding replacedBy
+  rewritten-by found e answer a r after p q =
+      let t : take (found .count) (found .places) ≡ placesIn (recordsFor sector (recordsIn ring track)) =
+      ap (λ (c : Copies). take (c .count) (c .places)) e
+      ∙ the-places (recordsIn ring track) (recordsFor sector (recordsIn ring track)) in
+      (p ∙ ap answerOf a, q ∙ rw (t, a))
