@@ -21,7 +21,7 @@ use Rattle.image.specs.Rings.{startOf, lengthOf, noTable, ringPlace}
 use Rattle.image.specs.D64.{d64Zeroed}
 use Rattle.image.proofs.TableLaws.{AllInside, track-inside}
 use Rattle.reclaim.specs.declared.ImageKind.{ImageKind}
-use Rattle.reclaim.specs.Images.{readAt, zeroedAt}
+use Rattle.reclaim.specs.Images.{readAt, zeroedAt, ringsKind, kindOf}
 use Rattle.reclaim.specs.Contracts.{Complete}
 
 -- the ring of a track by the table
@@ -35,11 +35,27 @@ module _ (table : Table) (t : ℕ) where
   unfolding ringPlace
   ring-here e = rw (ne-eqb _ 0 e)
 
+  -- what is said of a rule on that ring is said of the kind
+  module _ (rule : List SectorRecord → Sector) (p : Place) (e : p ≡ ringPlace table t) (l : List ℕ) (s : ℕ) where
+    pub read-ring : (r : Sector) → r ≡ readAt rule p l t s → r ≡ ringsKind rule table .read l t s
+    read-ring r q = q ∙ ap (λ (x : Place). readAt rule x l t s) e
+
+    pub zeroed-ring : (m : List ℕ) → m ≡ zeroedAt rule p t s l → m ≡ ringsKind rule table .zeroed t s l
+    zeroed-ring m q = q ∙ ap (λ (x : Place). zeroedAt rule x t s l) e
+
   -- it lies in the image
   pub ring-inside : (kind : ImageKind) (size : ℕ) → Complete kind table size → (p : Place) → p ≡ ringPlace table t
       → startOf p + lengthOf p ≤ size
   ring-inside kind size all p e =
       subst (λ (q : Place). startOf q + lengthOf q ≤ size) (sym e) (track-inside size table t (record { each = all .rings }))
+
+-- an image whose kind is known
+module _ (table : Table) (l : List ℕ) (t s : ℕ) (kind known : ImageKind) (e : kind ≡ known) where
+  pub read-as : (r : Sector) → r ≡ kindOf known table .read l t s → r ≡ kindOf kind table .read l t s
+  read-as r q = rw e q
+
+  pub zeroed-as : (m : List ℕ) → m ≡ kindOf known table .zeroed t s l → m ≡ kindOf kind table .zeroed t s l
+  zeroed-as m q = rw e q
 
 -- a sector of the ring at a place; r is what reading the lent part gave, ys what the part came back with
 module _ (place : Place) (l : List ℕ) (start long : ℕ) (e : place ≡ At start long) where

@@ -4,7 +4,7 @@ ghost use Prim.Native.Nat.{ℕ, _+_, _<_, _≤_};
 ghost use lib.ListN.{length, replicate};
 ghost use Rattle.base.specs.Refusals.{noRecord};
 ghost use Rattle.geometry.specs.D64.{d64Place};
-ghost use Rattle.sector.specs.Rules.{refused, unique};
+ghost use Rattle.sector.specs.Rules.{refused, unique, consistent};
 ghost use Rattle.image.specs.Rings.{startOf, lengthOf, noTable, ringPlace};
 ghost use Rattle.image.specs.D64.{d64Zeroed, OnTracks};
 ghost use Rattle.reclaim.specs.Images.{readAt, zeroedAt, kindOf};
@@ -65,6 +65,21 @@ fn read_unique(image: &[u8], place: Place, track: u8, sector: u8) -> Sector
     }
 }
 
+// A sector of the ring at a place, by the consistent rule.
+fn read_consistent(image: &[u8], place: Place, track: u8, sector: u8) -> Sector
+    requires { ⌜ startOf place + lengthOf place ≤ length (now image) ⌝ }
+    ensures { λ r. ⌜ r ≡ readAt consistent place (now (image .entry)) track sector ⌝ }
+{
+    match place {
+        Place::At(start, long) => {
+            let end = start + long;
+            sector::decode_sector_consistent(&image[start..end], track, sector)
+        }
+        Place::Absent => no_record(),
+        Place::Wrong => no_record(),
+    }
+}
+
 // A sector of an image, by the rule of its kind.
 pub fn read_sector(image: &[u8], kind: ImageKind, table: Table, track: u8, sector: u8) -> Sector
     requires { ⌜ (0 < track) × (track ≤ 42) ⌝ }
@@ -74,6 +89,7 @@ pub fn read_sector(image: &[u8], kind: ImageKind, table: Table, track: u8, secto
     match kind {
         ImageKind::D64 => image::d64_sector(image, track, sector),
         ImageKind::G64 => read_unique(image, ring_place(table, track), track, sector),
+        ImageKind::Nib => read_consistent(image, ring_place(table, track), track, sector),
     }
 }
 
@@ -105,7 +121,23 @@ fn zero_unique(image: &mut [u8], place: Place, track: u8, sector: u8)
         Place::At(start, long) => {
             let end = start + long;
             let zeros = [0u8; 256];
-            sector::replace_sector_unique(&mut image[start..end], track, sector, &zeros);
+            sector::replace_sector_data_unique(&mut image[start..end], track, sector, &zeros);
+        }
+        Place::Absent => {}
+        Place::Wrong => {}
+    }
+}
+
+// Makes a sector of the ring at a place zeros, by the consistent rule.
+fn zero_consistent(image: &mut [u8], place: Place, track: u8, sector: u8)
+    requires { ⌜ startOf place + lengthOf place ≤ length (now image) ⌝ }
+    ensures { λ r. ⌜ now (image .exit) ≡ zeroedAt consistent place track sector (now (image .entry)) ⌝ }
+{
+    match place {
+        Place::At(start, long) => {
+            let end = start + long;
+            let zeros = [0u8; 256];
+            sector::replace_sector_data_consistent(&mut image[start..end], track, sector, &zeros);
         }
         Place::Absent => {}
         Place::Wrong => {}
@@ -121,5 +153,6 @@ pub fn zero_sector(image: &mut [u8], kind: ImageKind, table: Table, track: u8, s
     match kind {
         ImageKind::D64 => zero_block(image, track, sector),
         ImageKind::G64 => zero_unique(image, ring_place(table, track), track, sector),
+        ImageKind::Nib => zero_consistent(image, ring_place(table, track), track, sector),
     }
 }

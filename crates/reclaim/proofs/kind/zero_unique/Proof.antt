@@ -20,17 +20,17 @@ enum-known-place c = search needs
 add-end : tie.Need-add-end
 add-end c = omega (arith, inside (c .before))
 
-sub-replace-sector-unique : tie.Need-sub-replace-sector-unique
-sub-replace-sector-unique c = search needs
+sub-replace-sector-data-unique : tie.Need-sub-replace-sector-data-unique
+sub-replace-sector-data-unique c = search needs
 
-part-replace-sector-unique-start : tie.Need-part-replace-sector-unique-start
-part-replace-sector-unique-start c = search needs
+part-replace-sector-data-unique-start : tie.Need-part-replace-sector-data-unique-start
+part-replace-sector-data-unique-start c = search needs
 
-part-replace-sector-unique-end : tie.Need-part-replace-sector-unique-end
-part-replace-sector-unique-end c = omega (arith, inside (c .before))
+part-replace-sector-data-unique-end : tie.Need-part-replace-sector-data-unique-end
+part-replace-sector-data-unique-end c = omega (arith, inside (c .before))
 
-replace-sector-unique-requires : tie.Need-replace-sector-unique-requires
-replace-sector-unique-requires c κs = search needs
+replace-sector-data-unique-requires : tie.Need-replace-sector-data-unique-requires
+replace-sector-data-unique-requires c κs = search needs
 
 enum-told : tie.Need-enum-told
 enum-told c = search needs
@@ -46,7 +46,7 @@ returns c =
     let r = c .before .before in
     let p = r .before .before .before .before in
     let a = p .before .before .before .args in
-    zeroed-here (a .place) (a .image .now) _ _ (p .place .given .1) unique (a .track) (a .sector) (r .replace-sector-unique .last .0) (r .replace-sector-unique .ensures .1)
+    zeroed-here (a .place) (a .image .now) _ _ (p .place .given .1) unique (a .track) (a .sector) (r .replace-sector-data-unique .last .0) (r .replace-sector-data-unique .ensures .1)
 
 returns-2 : tie.Need-returns-2
 returns-2 c = search needs
@@ -60,10 +60,10 @@ zero-unique-spec =
     (tie.spec
     enum-known-place
     add-end
-    sub-replace-sector-unique
-    part-replace-sector-unique-start
-    part-replace-sector-unique-end
-    replace-sector-unique-requires
+    sub-replace-sector-data-unique
+    part-replace-sector-data-unique-start
+    part-replace-sector-data-unique-end
+    replace-sector-data-unique-requires
     enum-told
     enum-told-2
     same-length
