@@ -1,9 +1,9 @@
 -- Clearing an image of any kind as the code does it: a law for each way out.
 -- Assumes nothing.
-use mathlib.Core.Path.{_≡_, refl, sym, ap, _∙_}
-use mathlib.Core.Bool.{Bool, true, false, _&&_, not}
+use mathlib.Core.Path.{_≡_, ap}
+use mathlib.Core.Bool.{Bool, true, false, not}
 use mathlib.Core.List.{List}
-use Prim.Native.Nat.{ℕ, zero, suc, _+_, _*_, _≤_, _<_}
+use Prim.Native.Nat.{ℕ, zero, suc, _+_, _*_, _≤_}
 use native.Mathlib.Omega.{arith}
 use lib.ListN.{getD}
 use Rattle.base.specs.Choice.{pick}
@@ -18,9 +18,7 @@ use Rattle.reclaim.specs.declared.Outcome.the-variants.{Cleared}
 use Rattle.reclaim.specs.Marks.{markPlace}
 use Rattle.reclaim.specs.Disk.{bamFree, disk1541}
 use Rattle.reclaim.specs.Chains.{chainOf}
-use Rattle.reclaim.specs.Clearing.{
-  Kind, Work, isFree, hasData, cleared, clearSector, tracksDone, untouched, refuse, finish, withChain, withBam, clearing
-}
+use Rattle.reclaim.specs.Clearing.{Kind, isFree, hasData, cleared, clearSector, tracksDone, untouched, refuse, finish, withChain, withBam, clearing}
 use Rattle.reclaim.specs.Counting.{freeSectors, freeTracks}
 use Rattle.reclaim.specs.Contracts.{work, answer}
 

@@ -1,14 +1,14 @@
 -- What the entry points find out before they clear: a law for each way out.
 -- Assumes nothing.
-use mathlib.Core.Path.{_≡_, refl, sym, ap, _∙_, subst}
-use mathlib.Core.Bool.{Bool, true, false}
+use mathlib.Core.Path.{_≡_, sym, subst}
+use mathlib.Core.Bool.{true, false}
 use mathlib.Core.List.{List}
-use Prim.Native.Nat.{ℕ, _+_, _*_, _≤_}
+use Prim.Native.Nat.{ℕ}
 use native.Mathlib.Omega.{arith}
 use lib.ListN.{length}
 use Rattle.base.specs.Refusals.{wrongImage}
 use Rattle.geometry.specs.declared.TrackCount.the-variants.{Tracks, NoD64}
-use Rattle.geometry.specs.D64.{sectorsTo, tracksOf}
+use Rattle.geometry.specs.D64.{tracksOf}
 use Rattle.geometry.proofs.D64Laws.{d64-facts, sum-mono}
 use Rattle.scan.specs.declared.SectorRecord.{SectorRecord}
 use Rattle.sector.specs.declared.Sector.{Sector}
@@ -18,7 +18,7 @@ use Rattle.image.proofs.TableLaws.{AllInside, none-inside}
 use Rattle.reclaim.specs.declared.ImageKind.{ImageKind}
 use Rattle.reclaim.specs.declared.ImageKind.the-variants.{D64}
 use Rattle.reclaim.specs.Disk.{bamFree, disk1541}
-use Rattle.reclaim.specs.Clearing.{Answer, refuse, clearing}
+use Rattle.reclaim.specs.Clearing.{refuse, clearing}
 use Rattle.reclaim.specs.Images.{d64Kind, byTracks, clearedD64, ringsKind, byTable}
 use Rattle.reclaim.specs.Contracts.{Complete}
 

@@ -2,24 +2,22 @@
 -- Assumes nothing.
 use mathlib.Core.Path.{_≡_, refl, sym, ap, _∙_, subst}
 use mathlib.Core.List.{List, _++_}
-use Prim.Native.Nat.{ℕ, _+_, _*_, _-_, _≤_, _<_}
+use Prim.Native.Nat.{ℕ, _+_, _*_, _-_, _≤_}
 use native.Mathlib.Omega.{arith}
 use lib.ListN.{length, getD, take, drop, replicate, length-take, length-drop}
 use borrow.Author.Tests.{eq-eqb, ne-eqb}
-use Rattle.base.specs.Lists.{onPart}
-use Rattle.base.specs.Refusals.{noRecord}
 use Rattle.base.proofs.Parts.{home}
 use Rattle.geometry.specs.D64.{d64Place}
 use Rattle.scan.specs.declared.SectorRecord.{SectorRecord}
 use Rattle.sector.specs.declared.Sector.{Sector}
-use Rattle.sector.specs.Rules.{refused, readBy}
+use Rattle.sector.specs.Rules.{readBy}
 use Rattle.sector.specs.Replacing.{replacedBy}
 use Rattle.image.specs.declared.Place.{Place}
-use Rattle.image.specs.declared.Place.the-variants.{At, Absent, Wrong}
+use Rattle.image.specs.declared.Place.the-variants.{At, Absent}
 use Rattle.image.specs.declared.Table.{Table}
-use Rattle.image.specs.Rings.{startOf, lengthOf, noTable, ringPlace}
+use Rattle.image.specs.Rings.{startOf, lengthOf, ringPlace}
 use Rattle.image.specs.D64.{d64Zeroed}
-use Rattle.image.proofs.TableLaws.{AllInside, track-inside}
+use Rattle.image.proofs.TableLaws.{track-inside}
 use Rattle.reclaim.specs.declared.ImageKind.{ImageKind}
 use Rattle.reclaim.specs.Images.{readAt, zeroedAt, ringsKind, kindOf}
 use Rattle.reclaim.specs.Contracts.{Complete}

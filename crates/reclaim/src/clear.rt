@@ -1,6 +1,6 @@
 // The free sectors of an image, one after the other.
 ghost use mathlib.Core.Path.{_≡_};
-ghost use Prim.Native.Nat.{ℕ, _+_, _*_, _-_, _<_, _≤_};
+ghost use Prim.Native.Nat.{_+_, _*_, _-_, _<_, _≤_};
 ghost use lib.ListN.{length};
 ghost use Rattle.geometry.specs.Zones.{sectorsOf};
 ghost use Rattle.image.specs.D64.{OnTracks};
@@ -8,13 +8,13 @@ ghost use Rattle.reclaim.specs.Disk.{entryFree, bamFree, disk1541};
 ghost use Rattle.reclaim.specs.Clearing.{isFree, hasData, clearSector, sectorsDone, tracksDone, untouched, clearing};
 ghost use Rattle.reclaim.specs.Images.{kindOf};
 ghost use Rattle.reclaim.specs.Contracts.{work, answer, Complete};
-use image::Table;
-use sector::Sector;
-use super::directory;
-use super::kind;
 use super::Counts;
 use super::ImageKind;
 use super::Outcome;
+use super::directory;
+use super::kind;
+use image::Table;
+use sector::Sector;
 
 // The BAM has entries for tracks 1 to 35, from byte 4 of 18/0 on; only those tracks are cleared.
 const FIRST_ENTRY: usize = 4;
@@ -70,7 +70,9 @@ fn clear_sector(
     requires { ⌜ OnTracks 35 track sector ⌝ }
     requires { ⌜ Complete kind table (length (now image)) ⌝ }
     requires { ⌜ (counts .free < 10000) × (counts .changed < 10000) ⌝ }
-    ensures { λ r. ⌜ work (now (image .exit)) r ≡ clearSector (kindOf kind table) (isFree (bamFree (now (bam .entry))) (now (marks .entry))) track sector (work (now (image .entry)) counts) ⌝ }
+    ensures { λ r. ⌜ work (now (image .exit)) r
+        ≡ clearSector (kindOf kind table) (isFree (bamFree (now (bam .entry))) (now (marks .entry))) track sector
+        (work (now (image .entry)) counts) ⌝ }
 {
     if !to_clear(bam, marks, track, sector) {
         return counts;
@@ -101,7 +103,9 @@ fn clear_track(
     requires { ⌜ (0 < track) × (track ≤ 35) ⌝ }
     requires { ⌜ Complete kind table (length (now image)) ⌝ }
     requires { ⌜ (start .free < 9000) × (start .changed < 9000) ⌝ }
-    ensures { λ r. ⌜ work (now (image .exit)) r ≡ sectorsDone (kindOf kind table) (isFree (bamFree (now (bam .entry))) (now (marks .entry))) track (sectorsOf track) (work (now (image .entry)) start) ⌝ }
+    ensures { λ r. ⌜ work (now (image .exit)) r
+        ≡ sectorsDone (kindOf kind table) (isFree (bamFree (now (bam .entry))) (now (marks .entry))) track (sectorsOf track)
+        (work (now (image .entry)) start) ⌝ }
 {
     let n = geometry::sectors_per_track(track);
     let mut counts = start;
@@ -121,7 +125,9 @@ fn clear_tracks(
     marks: &[bool; 882],
 ) -> Counts
     requires { ⌜ Complete kind table (length (now image)) ⌝ }
-    ensures { λ r. ⌜ work (now (image .exit)) r ≡ tracksDone (kindOf kind table) sectorsOf (isFree (bamFree (now (bam .entry))) (now (marks .entry))) 35 (untouched (now (image .entry))) ⌝ }
+    ensures { λ r. ⌜ work (now (image .exit)) r
+        ≡ tracksDone (kindOf kind table) sectorsOf (isFree (bamFree (now (bam .entry))) (now (marks .entry))) 35
+        (untouched (now (image .entry))) ⌝ }
 {
     let mut counts = Counts {
         free: 0,

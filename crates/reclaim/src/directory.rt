@@ -1,16 +1,16 @@
 // What clearing keeps: 18/0, and the sectors of the directory chain.
 ghost use mathlib.Core.Path.{_≡_};
-ghost use Prim.Native.Nat.{ℕ, _<_, _≤_};
+ghost use Prim.Native.Nat.{_<_, _≤_};
 ghost use lib.ListN.{length};
 ghost use Rattle.reclaim.specs.Marks.{markPlace};
 ghost use Rattle.reclaim.specs.Disk.{isAddress, disk1541};
 ghost use Rattle.reclaim.specs.Chains.{brokenChain, chainAt, chainOf};
 ghost use Rattle.reclaim.specs.Images.{kindOf};
 ghost use Rattle.reclaim.specs.Contracts.{Complete};
-use image::Table;
 use super::Chain;
 use super::ImageKind;
 use super::kind;
+use image::Table;
 
 // Is this an address on a disk with that highest track?
 fn is_address(track: u8, sector: u8, highest: u8) -> bool
@@ -54,7 +54,8 @@ fn follow(
 ) -> Chain
     requires { ⌜ highest ≤ 42 ⌝ }
     requires { ⌜ Complete kind table (length (now image)) ⌝ }
-    ensures { λ r. ⌜ r ≡ chainAt (disk1541 highest) (kindOf kind table .read (now (image .entry))) first 0 «first_track» «first_sector» ⌝ }
+    ensures { λ r. ⌜ r
+        ≡ chainAt (disk1541 highest) (kindOf kind table .read (now (image .entry))) first 0 «first_track» «first_sector» ⌝ }
 {
     let mut marks = first;
     let mut n: usize = 0;

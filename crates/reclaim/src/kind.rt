@@ -1,30 +1,18 @@
 // A sector of an image of any kind: read, and made zeros.
 ghost use mathlib.Core.Path.{_≡_};
-ghost use Prim.Native.Nat.{ℕ, _+_, _<_, _≤_};
+ghost use Prim.Native.Nat.{_+_, _<_, _≤_};
 ghost use lib.ListN.{length, replicate};
 ghost use Rattle.base.specs.Refusals.{noRecord};
 ghost use Rattle.geometry.specs.D64.{d64Place};
 ghost use Rattle.sector.specs.Rules.{refused, unique, consistent};
-ghost use Rattle.image.specs.Rings.{startOf, lengthOf, noTable, ringPlace};
+ghost use Rattle.image.specs.Rings.{startOf, lengthOf, ringPlace};
 ghost use Rattle.image.specs.D64.{d64Zeroed, OnTracks};
 ghost use Rattle.reclaim.specs.Images.{readAt, zeroedAt, kindOf};
 ghost use Rattle.reclaim.specs.Contracts.{Complete};
+use super::ImageKind;
 use image::Place;
 use image::Table;
 use sector::Sector;
-use super::ImageKind;
-
-// The table of an image that has no rings.
-pub fn no_rings() -> Table
-    ensures { λ r. ⌜ r ≡ noTable 0 ⌝ }
-{
-    Table {
-        ok: false,
-        number: 0,
-        starts: [0usize; 84],
-        lengths: [0usize; 84],
-    }
-}
 
 // Where the ring of a track lies: half-track 2(track - 1), absent where its length is 0.
 fn ring_place(table: Table, track: u8) -> Place

@@ -7,7 +7,7 @@ use Rattle.reclaim.specs.Images.{byTable, clearedG64}
 use lib.ListN.{length}
 use Prim.Native.Nat.{ℕ}
 use native.Mathlib.Omega.{arith}
-use mathlib.Core.Path.{_≡_, refl, sym, ap, _∙_, subst}
+use mathlib.Core.Path.{_≡_, ap, _∙_}
 use borrow.Author.Tests.{not-true, not-false}
 use borrow.Author.Needs.{needs}
 use Rattle.reclaim.proofs.clear_g64.Statement.{statement}
@@ -29,8 +29,11 @@ returns c =
 clear-image-requires : tie.Need-clear-image-requires
 clear-image-requires c κs =
     let g = c .before .before .before in
-    let l = g .before .before .before .args .image .now in
-    (omega arith, rings-complete G64 (λ e. let z : _≡_ {A = ℕ} 0 1 = cc in omega arith) (length l) (g .g64-table .result) (g64Table l) (g .g64-table .ensures) (g64-inside l))
+    let l = g .before .before .before .args .image .now in (
+      omega arith,
+      rings-complete G64 (λ e. let z : _≡_ {A = ℕ} 0 1 = cc in omega arith) (length l) (g .g64-table .result) (g64Table l)
+          (g .g64-table .ensures) (g64-inside l),
+    )
 
 same-length-2 : tie.Need-same-length-2
 same-length-2 c = search needs
@@ -42,7 +45,8 @@ returns-2 c =
     let e = k .before .before in
     let g = e .before .before in
     let l = g .before .before .before .args .image .now in
-    k .clear-image .ensures ∙ as-rings unique l (g .g64-table .result) (not-false _ (e .if1 .left)) ∙ ap (byTable unique l) (g .g64-table .ensures)
+    k .clear-image .ensures ∙ as-rings unique l (g .g64-table .result) (not-false _ (e .if1 .left))
+    ∙ ap (byTable unique l) (g .g64-table .ensures)
 
 pub clear-g64-spec : {M : Type 1} → statement M
 clear-g64-spec =

@@ -1,6 +1,5 @@
 use Rattle.reclaim.proofs.ClearSteps.{no-bam, no-chain, all-cleared}
 use Rattle.reclaim.specs.Images.{kindOf}
-use mathlib.Core.Path.{_≡_, refl, sym, ap, _∙_, subst}
 use borrow.Author.Tests.{not-true, not-false}
 use borrow.Author.Needs.{needs}
 use Rattle.reclaim.proofs.clear.clear_image.Statement.{statement}
@@ -16,7 +15,8 @@ returns : tie.Need-returns
 returns c =
     let r = c .before .before in
     let a = r .before .before .before .args in
-    no-bam (kindOf (a .kind) (a .table)) (a .highest) (a .image .now) (r .read-sector .result) (r .read-sector .ensures) (not-true _ (c .if1 .taken))
+    no-bam (kindOf (a .kind) (a .table)) (a .highest) (a .image .now) (r .read-sector .result) (r .read-sector .ensures)
+    (not-true _ (c .if1 .taken))
 
 directory-chain-requires : tie.Need-directory-chain-requires
 directory-chain-requires c κs = search needs

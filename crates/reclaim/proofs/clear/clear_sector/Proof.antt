@@ -2,7 +2,7 @@ use Rattle.reclaim.proofs.ClearSteps.{turn-kept, turn-same, turn-change
 use Rattle.reclaim.specs.Clearing.{isFree}
 use Rattle.reclaim.specs.Disk.{bamFree}
 use Rattle.reclaim.specs.Images.{kindOf}
-use mathlib.Core.Path.{_≡_, refl, sym, ap, _∙_, subst}
+use mathlib.Core.Path.{sym, _∙_}
 use borrow.Author.Tests.{not-true, not-false}
 use borrow.Author.Needs.{needs}
 use Rattle.reclaim.proofs.clear.clear_sector.Statement.{statement}
@@ -14,7 +14,8 @@ to-clear-requires c κs = search needs
 returns : tie.Need-returns
 returns c =
     let a = c .before .before .before .args in
-    turn-kept (kindOf (a .kind) (a .table)) (isFree (bamFree (a .bam .now)) (a .marks .now)) (a .track) (a .sector) (a .image .now) (a .counts)
+    turn-kept (kindOf (a .kind) (a .table)) (isFree (bamFree (a .bam .now)) (a .marks .now)) (a .track) (a .sector) (a .image .now)
+    (a .counts)
     (sym (c .before .to-clear .ensures) ∙ not-true _ (c .if1 .taken))
 
 read-sector-requires : tie.Need-read-sector-requires
@@ -35,7 +36,8 @@ returns-2 c =
     let r = h .before in
     let e = r .before .before in
     let a = e .before .before .before .args in
-    turn-same (kindOf (a .kind) (a .table)) (isFree (bamFree (a .bam .now)) (a .marks .now)) (a .track) (a .sector) (a .image .now) (a .counts)
+    turn-same (kindOf (a .kind) (a .table)) (isFree (bamFree (a .bam .now)) (a .marks .now)) (a .track) (a .sector) (a .image .now)
+    (a .counts)
     (sym (e .before .to-clear .ensures) ∙ not-false _ (e .if1 .left)) (r .read-sector .result) (r .read-sector .ensures)
     (sym (h .has-data .ensures) ∙ not-true _ (c .before .if2 .taken))
 
@@ -58,7 +60,8 @@ returns-3 c =
     let r = h .before in
     let e = r .before .before in
     let a = e .before .before .before .args in
-    turn-changed (kindOf (a .kind) (a .table)) (isFree (bamFree (a .bam .now)) (a .marks .now)) (a .track) (a .sector) (a .image .now) (a .counts)
+    turn-changed (kindOf (a .kind) (a .table)) (isFree (bamFree (a .bam .now)) (a .marks .now)) (a .track) (a .sector) (a .image .now)
+    (a .counts)
     (sym (e .before .to-clear .ensures) ∙ not-false _ (e .if1 .left)) (r .read-sector .result) (r .read-sector .ensures)
     (sym (h .has-data .ensures) ∙ not-false _ (z .before .before .if2 .left)) (z .zero-sector .last .0) (z .zero-sector .ensures)
 

@@ -1,4 +1,4 @@
-use Rattle.reclaim.specs.Clearing.{Work, isFree, clearSector, sectorsDone, tracksDone, untouched}
+use Rattle.reclaim.specs.Clearing.{Work, isFree, clearSector, sectorsDone}
 use Rattle.reclaim.specs.Contracts.{work, Complete}
 use Rattle.reclaim.specs.Images.{kindOf}
 use Rattle.reclaim.specs.Disk.{bamFree}
@@ -7,7 +7,7 @@ use Rattle.geometry.proofs.ZoneLaws.{sectors-of}
 use Rattle.reclaim.proofs.Counted.{sectors-next, sectors-counted, sectors-changed}
 use Rattle.reclaim.proofs.ClearSteps.{free-le}
 use mathlib.Core.Path.{_≡_, refl, sym, ap, _∙_, subst}
-use Prim.Native.Nat.{ℕ, _+_, _*_, _-_, _≤_, _<_}
+use Prim.Native.Nat.{_-_, _≤_, _<_}
 use native.Mathlib.Omega.{arith}
 use borrow.Author.Needs.{needs}
 use lib.ListN.{length}
@@ -16,7 +16,8 @@ use Rattle.reclaim.proofs.clear.clear_track.Tie as tie
 
 abbrev Inv-loop : tie.InvT-loop
 Inv-loop image₀ kind table bam marks track n counts₀ sector₀ image counts sector =
-    (sector ≤ n) × (length image ≡ length image₀) × (work image counts ≡ sectorsDone (kindOf kind table) (isFree (bamFree bam) marks) track sector (work image₀ counts₀))
+    (sector ≤ n) × (length image ≡ length image₀)
+    × (work image counts ≡ sectorsDone (kindOf kind table) (isFree (bamFree bam) marks) track sector (work image₀ counts₀))
 
 abbrev μ-loop : tie.MeasureT-loop
 μ-loop image₀ kind table bam marks track n counts₀ sector₀ image counts sector = n - sector
@@ -63,8 +64,10 @@ loop-again c =
       omega arith,
       k .clear-sector .kept .0 ∙ l .loop .inv .1,
       k .clear-sector .ensures
-          ∙ ap (clearSector (kindOf (a .kind) (a .table)) (isFree (bamFree (a .bam .now)) (a .marks .now)) (a .track) (l .loop .sector)) (l .loop .inv .2)
-          ∙ sym (sectors-next (kindOf (a .kind) (a .table)) sectorsOf (isFree (bamFree (a .bam .now)) (a .marks .now)) (a .track) (l .loop .sector) (work (a .image .now) (a .start))),
+          ∙ ap (clearSector (kindOf (a .kind) (a .table)) (isFree (bamFree (a .bam .now)) (a .marks .now)) (a .track) (l .loop .sector))
+          (l .loop .inv .2)
+          ∙ sym (sectors-next (kindOf (a .kind) (a .table)) sectorsOf (isFree (bamFree (a .bam .now)) (a .marks .now)) (a .track)
+          (l .loop .sector) (work (a .image .now) (a .start))),
     )
 
 same-length : tie.Need-same-length Inv-loop μ-loop

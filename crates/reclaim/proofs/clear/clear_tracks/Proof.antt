@@ -1,4 +1,4 @@
-use Rattle.reclaim.specs.Clearing.{Work, isFree, clearSector, sectorsDone, tracksDone, untouched}
+use Rattle.reclaim.specs.Clearing.{Work, isFree, sectorsDone, tracksDone, untouched}
 use Rattle.reclaim.specs.Contracts.{work, Complete}
 use Rattle.reclaim.specs.Images.{kindOf}
 use Rattle.reclaim.specs.Disk.{bamFree}
@@ -6,16 +6,16 @@ use Rattle.geometry.specs.Zones.{sectorsOf}
 use Rattle.reclaim.proofs.Counted.{tracks-next, tracks-counted, tracks-changed}
 use Rattle.reclaim.proofs.ClearSteps.{tracks-le}
 use mathlib.Core.Path.{_≡_, refl, sym, ap, _∙_, subst}
-use Prim.Native.Nat.{ℕ, _+_, _*_, _-_, _≤_, _<_}
+use Prim.Native.Nat.{_+_, _-_, _≤_}
 use native.Mathlib.Omega.{arith}
-use borrow.Author.Needs.{needs}
 use lib.ListN.{length}
 use Rattle.reclaim.proofs.clear.clear_tracks.Statement.{statement}
 use Rattle.reclaim.proofs.clear.clear_tracks.Tie as tie
 
 abbrev Inv-loop : tie.InvT-loop
 Inv-loop image₀ kind table bam marks counts₀ track₀ image counts track =
-    (track ≤ 35) × (length image ≡ length image₀) × (work image counts ≡ tracksDone (kindOf kind table) sectorsOf (isFree (bamFree bam) marks) track (untouched image₀))
+    (track ≤ 35) × (length image ≡ length image₀)
+    × (work image counts ≡ tracksDone (kindOf kind table) sectorsOf (isFree (bamFree bam) marks) track (untouched image₀))
 
 abbrev μ-loop : tie.MeasureT-loop
 μ-loop image₀ kind table bam marks counts₀ track₀ image counts track = 35 - track
@@ -57,8 +57,10 @@ loop-again c =
       omega arith,
       k .clear-track .kept .0 ∙ l .loop .inv .1,
       k .clear-track .ensures
-          ∙ ap (sectorsDone (kindOf (a .kind) (a .table)) (isFree (bamFree (a .bam .now)) (a .marks .now)) (l .loop .track + 1) (sectorsOf (l .loop .track + 1))) (l .loop .inv .2)
-          ∙ sym (tracks-next (kindOf (a .kind) (a .table)) sectorsOf (isFree (bamFree (a .bam .now)) (a .marks .now)) (l .loop .track) (untouched (a .image .now))),
+          ∙ ap (sectorsDone (kindOf (a .kind) (a .table)) (isFree (bamFree (a .bam .now)) (a .marks .now)) (l .loop .track + 1)
+          (sectorsOf (l .loop .track + 1))) (l .loop .inv .2)
+          ∙ sym (tracks-next (kindOf (a .kind) (a .table)) sectorsOf (isFree (bamFree (a .bam .now)) (a .marks .now)) (l .loop .track)
+          (untouched (a .image .now))),
     )
 
 same-length : tie.Need-same-length Inv-loop μ-loop

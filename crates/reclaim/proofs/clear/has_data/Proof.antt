@@ -1,5 +1,5 @@
 use Rattle.reclaim.proofs.ClearSteps.{unreadable, by-bytes}
-use mathlib.Core.Path.{_≡_, refl, sym, ap, _∙_, subst}
+use mathlib.Core.Path.{_∙_}
 use borrow.Author.Tests.{not-true, not-false}
 use borrow.Author.Needs.{needs}
 use Rattle.reclaim.proofs.clear.has_data.Statement.{statement}

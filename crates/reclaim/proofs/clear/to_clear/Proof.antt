@@ -2,7 +2,7 @@ use Rattle.reclaim.proofs.ClearSteps.{used, by-mark}
 use Rattle.geometry.proofs.ZoneLaws.{sectors-of}
 use Rattle.reclaim.specs.Disk.{bamFree}
 use Rattle.reclaim.specs.Marks.{markPlace}
-use mathlib.Core.Path.{_≡_, refl, sym, ap, _∙_, subst}
+use mathlib.Core.Path.{sym, _∙_}
 use native.Mathlib.Omega.{arith}
 use borrow.Author.Tests.{not-true, not-false}
 use Rattle.reclaim.proofs.clear.to_clear.Statement.{statement}

@@ -1,10 +1,5 @@
 use Rattle.reclaim.specs.Chains.{brokenChain}
-use mathlib.Core.Path.{_≡_, refl, sym, ap, _∙_}
-use mathlib.Core.Bool.{Bool, true, false}
-use Prim.Native.Nat.{ℕ, _+_, _*_, _-_, _≤_, _<_}
-use native.Mathlib.Omega.{arith}
-use borrow.Author.Needs.{needs}
-use lib.ListN.{length, getD, take, drop, set, replicate, length-set}
+use mathlib.Core.Path.{refl}
 use Rattle.reclaim.proofs.directory.broken_chain.Statement.{statement}
 use Rattle.reclaim.proofs.directory.broken_chain.Tie as tie
 

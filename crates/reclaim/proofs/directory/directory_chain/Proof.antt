@@ -1,16 +1,15 @@
-use mathlib.Core.List.{List}
 use Rattle.reclaim.proofs.ChainSteps.{chain-of-bad, chain-of}
 use borrow.Author.Tests.{not-true, not-false}
 use Rattle.reclaim.specs.Images.{kindOf}
 use Rattle.reclaim.specs.Chains.{chainAt}
 use Rattle.reclaim.specs.Marks.{noMarks, markPlace}
-use Rattle.reclaim.specs.Disk.{isAddress, disk1541}
-use mathlib.Core.Path.{_≡_, refl, sym, ap, _∙_}
-use mathlib.Core.Bool.{Bool, true, false}
-use Prim.Native.Nat.{ℕ, _+_, _*_, _-_, _≤_, _<_}
+use Rattle.reclaim.specs.Disk.{disk1541}
+use mathlib.Core.Path.{sym, ap, _∙_}
+use mathlib.Core.Bool.{true}
+use Prim.Native.Nat.{ℕ}
 use native.Mathlib.Omega.{arith}
 use borrow.Author.Needs.{needs}
-use lib.ListN.{length, getD, take, drop, set, replicate, length-set}
+use lib.ListN.{getD, set}
 use Rattle.reclaim.proofs.directory.directory_chain.Statement.{statement}
 use Rattle.reclaim.proofs.directory.directory_chain.Tie as tie
 
@@ -31,7 +30,8 @@ returns c =
     let v = c .before .before in
     let a = v .before .before .before .before .args in
     c .broken-chain .ensures
-    ∙ chain-of-bad (disk1541 (a .highest)) (kindOf (a .kind) (a .table) .read (a .image .now)) (a .bam .now) (sym (v .is-address .ensures) ∙ not-true _ (c .before .if1 .taken))
+    ∙ chain-of-bad (disk1541 (a .highest)) (kindOf (a .kind) (a .table) .read (a .image .now)) (a .bam .now)
+    (sym (v .is-address .ensures) ∙ not-true _ (c .before .if1 .taken))
 
 array-write-marks : tie.Need-array-write-marks
 unfolding markPlace
@@ -50,7 +50,8 @@ returns-2 c =
     let a = v .before .before .before .before .args in
     let read = kindOf (a .kind) (a .table) .read (a .image .now) in
     c .follow .ensures
-    ∙ ap (λ (p : ℕ). chainAt (disk1541 (a .highest)) read (set noMarks p true) 0 (getD (a .bam .now) 0 0) (getD (a .bam .now) 1 0)) (m .mark-place .ensures)
+    ∙ ap (λ (p : ℕ). chainAt (disk1541 (a .highest)) read (set noMarks p true) 0 (getD (a .bam .now) 0 0) (getD (a .bam .now) 1 0))
+    (m .mark-place .ensures)
     ∙ chain-of (disk1541 (a .highest)) read (a .bam .now) (sym (v .is-address .ensures) ∙ not-false _ (m .before .if1 .left))
 
 pub directory-chain-spec : {M : Type 1} → statement M

@@ -1,11 +1,7 @@
 use lib.Dec.{ltb}
 use Rattle.reclaim.proofs.ChainSteps.{address-zero, address-high, address-sector}
-use mathlib.Core.Path.{_≡_, refl, sym, ap, _∙_}
-use mathlib.Core.Bool.{Bool, true, false}
-use Prim.Native.Nat.{ℕ, _+_, _*_, _-_, _≤_, _<_}
-use native.Mathlib.Omega.{arith}
+use mathlib.Core.Path.{ap, _∙_}
 use borrow.Author.Needs.{needs}
-use lib.ListN.{length, getD, take, drop, set, replicate, length-set}
 use Rattle.reclaim.proofs.directory.is_address.Statement.{statement}
 use Rattle.reclaim.proofs.directory.is_address.Tie as tie
 
@@ -21,7 +17,8 @@ sectors-per-track-requires c κs = search needs
 returns-3 : tie.Need-returns-3
 returns-3 c =
     let a = c .before .before .before .args in
-    ap (ltb (a .sector)) (c .sectors-per-track .ensures .0) ∙ address-sector (a .track) (a .sector) (a .highest) (c .before .before .if1 .left) (c .before .if2 .left)
+    ap (ltb (a .sector)) (c .sectors-per-track .ensures .0)
+    ∙ address-sector (a .track) (a .sector) (a .highest) (c .before .before .if1 .left) (c .before .if2 .left)
 
 pub is-address-spec : {M : Type 1} → statement M
 is-address-spec = tie.close (tie.spec returns returns-2 sectors-per-track-requires returns-3)

@@ -1,10 +1,6 @@
 use Rattle.reclaim.specs.Marks.{markPlace}
-use mathlib.Core.Path.{_≡_, refl, sym, ap, _∙_}
-use mathlib.Core.Bool.{Bool, true, false}
-use Prim.Native.Nat.{ℕ, _+_, _*_, _-_, _≤_, _<_}
 use native.Mathlib.Omega.{arith}
 use borrow.Author.Needs.{needs}
-use lib.ListN.{length, getD, take, drop, set, replicate, length-set}
 use Rattle.reclaim.proofs.directory.mark_place.Statement.{statement}
 use Rattle.reclaim.proofs.directory.mark_place.Tie as tie
 

@@ -1,10 +1,9 @@
-use mathlib.Core.Path.{_≡_, refl, sym, ap, _∙_}
+use mathlib.Core.Path.{_≡_, refl, ap, _∙_}
 use mathlib.Core.List.{List, _++_, append-nil}
-use Prim.Native.Nat.{ℕ, _+_, _*_, _-_, _≤_, _<_}
+use Prim.Native.Nat.{ℕ, _+_, _-_, _≤_}
 use native.Mathlib.Omega.{arith}
-use borrow.Author.Needs.{needs}
 use borrow.Author.Fill.{fill-none, fill-more}
-use lib.ListN.{length, getD, take, drop, set, replicate, length-set}
+use lib.ListN.{length, drop, set, replicate, length-set}
 use lib.Seq.{drop-length}
 use Rattle.reclaim.proofs.kind.fill_zero.Statement.{statement}
 use Rattle.reclaim.proofs.kind.fill_zero.Tie as tie

@@ -1,6 +1,5 @@
 use Rattle.reclaim.proofs.KindSteps.{place-inside, read-here}
 use Rattle.sector.specs.Rules.{consistent}
-use mathlib.Core.Path.{_≡_, refl, sym, ap, _∙_, subst}
 use native.Mathlib.Omega.{arith}
 use lib.ListN.{length}
 use Prim.Native.Nat.{_+_, _≤_}
@@ -48,7 +47,8 @@ returns : tie.Need-returns
 returns c =
     let p = c .before .before .before in
     let a = p .before .before .before .args in
-    read-here (a .place) (a .image .now) _ _ (p .place .given .1) consistent (a .track) (a .sector) (c .decode-sector-consistent .result) (c .decode-sector-consistent .ensures)
+    read-here (a .place) (a .image .now) _ _ (p .place .given .1) consistent (a .track) (a .sector) (c .decode-sector-consistent .result)
+    (c .decode-sector-consistent .ensures)
 
 returns-2 : tie.Need-returns-2
 returns-2 c = search needs

@@ -30,7 +30,8 @@ returns c =
     let f = c .before .before in
     let d = f .before .before in
     let a = d .before .before .args in
-    block-zeroed (a .image .now) (a .track) (a .sector) (d .d64-place .result) (d .d64-place .ensures) (omega arith) (f .fill-zero .last .0) (f .fill-zero .ensures)
+    block-zeroed (a .image .now) (a .track) (a .sector) (d .d64-place .result) (d .d64-place .ensures) (omega arith)
+    (f .fill-zero .last .0) (f .fill-zero .ensures)
 
 pub zero-block-spec : {M : Type 1} → statement M
 zero-block-spec =

@@ -15,7 +15,11 @@ zero-block-requires : tie.Need-zero-block-requires
 zero-block-requires c κs =
     let s = c .before .before .before .before in
     let o = s .pre .0 in
-    omega (arith, offset-in 35 (s .args .track) (s .args .sector) (o .some) (o .highest) (o .below), s .pre .1 .sectors (c .before .enum-told .given .1))
+    omega (
+      arith,
+      offset-in 35 (s .args .track) (s .args .sector) (o .some) (o .highest) (o .below),
+      s .pre .1 .sectors (c .before .enum-told .given .1),
+    )
 
 enum-told-2 : tie.Need-enum-told-2
 enum-told-2 c = search needs
@@ -26,7 +30,8 @@ ring-place-requires c κs = search needs
 zero-unique-requires : tie.Need-zero-unique-requires
 zero-unique-requires c κs =
     let s = c .before .before .before .before .before in
-    ring-inside (s .args .table) (s .args .track) (s .args .kind) (length (s .args .image .now)) (s .pre .1) (c .ring-place .result) (c .ring-place .ensures)
+    ring-inside (s .args .table) (s .args .track) (s .args .kind) (length (s .args .image .now)) (s .pre .1) (c .ring-place .result)
+    (c .ring-place .ensures)
 
 enum-told-3 : tie.Need-enum-told-3
 enum-told-3 c = search needs
@@ -37,7 +42,8 @@ ring-place-requires-2 c κs = search needs
 zero-consistent-requires : tie.Need-zero-consistent-requires
 zero-consistent-requires c κs =
     let s = c .before .before .before .before .before in
-    ring-inside (s .args .table) (s .args .track) (s .args .kind) (length (s .args .image .now)) (s .pre .1) (c .ring-place2 .result) (c .ring-place2 .ensures)
+    ring-inside (s .args .table) (s .args .track) (s .args .kind) (length (s .args .image .now)) (s .pre .1) (c .ring-place2 .result)
+    (c .ring-place2 .ensures)
 
 same-length : tie.Need-same-length
 same-length c = search needs
@@ -47,7 +53,8 @@ returns c =
     let z = c .before .before in
     let e = z .before .before in
     let a = e .before .before .before .args in
-    zeroed-as (a .table) (a .image .now) (a .track) (a .sector) (a .kind) D64 (e .enum-told .given .1) (z .zero-block .last .0) (z .zero-block .ensures)
+    zeroed-as (a .table) (a .image .now) (a .track) (a .sector) (a .kind) D64 (e .enum-told .given .1) (z .zero-block .last .0)
+    (z .zero-block .ensures)
 
 same-length-2 : tie.Need-same-length-2
 same-length-2 c = search needs
@@ -59,7 +66,8 @@ returns-2 c =
     let e = r .before .before in
     let a = e .before .before .before .args in
     zeroed-as (a .table) (a .image .now) (a .track) (a .sector) (a .kind) G64 (e .enum-told2 .given .1) (z .zero-unique .last .0)
-    (zeroed-ring (a .table) (a .track) unique (r .ring-place .result) (r .ring-place .ensures) (a .image .now) (a .sector) _ (z .zero-unique .ensures))
+    (zeroed-ring (a .table) (a .track) unique (r .ring-place .result) (r .ring-place .ensures) (a .image .now) (a .sector) _
+    (z .zero-unique .ensures))
 
 same-length-3 : tie.Need-same-length-3
 same-length-3 c = search needs
@@ -71,7 +79,8 @@ returns-3 c =
     let e = r .before .before in
     let a = e .before .before .before .args in
     zeroed-as (a .table) (a .image .now) (a .track) (a .sector) (a .kind) Nib (e .enum-told3 .given .1) (z .zero-consistent .last .0)
-    (zeroed-ring (a .table) (a .track) consistent (r .ring-place2 .result) (r .ring-place2 .ensures) (a .image .now) (a .sector) _ (z .zero-consistent .ensures))
+    (zeroed-ring (a .table) (a .track) consistent (r .ring-place2 .result) (r .ring-place2 .ensures) (a .image .now) (a .sector) _
+    (z .zero-consistent .ensures))
 
 pub zero-sector-spec : {M : Type 1} → statement M
 zero-sector-spec =

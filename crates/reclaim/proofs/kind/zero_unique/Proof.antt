@@ -1,6 +1,5 @@
 use Rattle.reclaim.proofs.KindSteps.{place-inside, zeroed-here}
 use Rattle.sector.specs.Rules.{unique}
-use mathlib.Core.Path.{_≡_, refl, sym, ap, _∙_, subst}
 use native.Mathlib.Omega.{arith}
 use lib.ListN.{length}
 use Prim.Native.Nat.{_+_, _≤_}
@@ -46,7 +45,8 @@ returns c =
     let r = c .before .before in
     let p = r .before .before .before .before in
     let a = p .before .before .before .args in
-    zeroed-here (a .place) (a .image .now) _ _ (p .place .given .1) unique (a .track) (a .sector) (r .replace-sector-data-unique .last .0) (r .replace-sector-data-unique .ensures .1)
+    zeroed-here (a .place) (a .image .now) _ _ (p .place .given .1) unique (a .track) (a .sector) (r .replace-sector-data-unique .last .0)
+    (r .replace-sector-data-unique .ensures .1)
 
 returns-2 : tie.Need-returns-2
 returns-2 c = search needs

@@ -1,7 +1,7 @@
 use Rattle.image.specs.Rings.{noTable}
-use mathlib.Core.Path.{_≡_, refl, sym, ap, _∙_, subst}
-use Rattle.reclaim.proofs.kind.no_rings.Statement.{statement}
-use Rattle.reclaim.proofs.kind.no_rings.Tie as tie
+use mathlib.Core.Path.{refl}
+use Rattle.reclaim.proofs.no_rings.Statement.{statement}
+use Rattle.reclaim.proofs.no_rings.Tie as tie
 
 returns : tie.Need-returns
 unfolding noTable
