@@ -1,0 +1,87 @@
+-- Clearing an image of any kind as the code does it: a law for each way out.
+-- Assumes nothing.
+use mathlib.Core.Path.{_≡_, ap}
+use mathlib.Core.Bool.{Bool, true, false, not}
+use mathlib.Core.List.{List}
+use Prim.Native.Nat.{ℕ, zero, suc, _+_, _*_, _≤_}
+use native.Mathlib.Omega.{arith}
+use lib.ListN.{getD}
+use Rattle.base.specs.Choice.{pick}
+use Rattle.base.specs.Refusals.{noDirectory, wrongLink}
+use Rattle.base.specs.Bytes.{anyNonzero}
+use Rattle.geometry.specs.Zones.{sectorsOf}
+use Rattle.geometry.proofs.ZoneLaws.{sectors-of}
+use Rattle.sector.specs.declared.Sector.{Sector}
+use Rattle.reclaim.specs.declared.Chain.{Chain}
+use Rattle.reclaim.specs.declared.Counts.{Counts}
+use Rattle.reclaim.specs.declared.Outcome.the-variants.{Cleared}
+use Rattle.reclaim.specs.Marks.{markPlace}
+use Rattle.reclaim.specs.Disk.{bamFree, disk1541}
+use Rattle.reclaim.specs.Chains.{chainOf}
+use Rattle.reclaim.specs.Clearing.{Kind, isFree, hasData, cleared, clearSector, tracksDone, untouched, refuse, finish, withChain, withBam, clearing}
+use Rattle.reclaim.specs.Counting.{freeSectors, freeTracks}
+use Rattle.reclaim.specs.Contracts.{work, answer}
+
+-- is a sector to be cleared: place is its mark's
+module _ (free : ℕ → ℕ → Bool) (marks : List Bool) (t s : ℕ) where
+  pub used : free t s ≡ false → false ≡ isFree free marks t s
+  used f = rw f
+
+  pub by-mark : free t s ≡ true → (place : ℕ) → place ≡ markPlace t s → not (getD marks place false) ≡ isFree free marks t s
+  by-mark f place p = rw (f, p)
+
+-- has a sector data
+pub unreadable : (found : Sector) → found .ok ≡ false → false ≡ hasData found
+unreadable found o = rw o
+
+pub by-bytes : (found : Sector) → found .ok ≡ true → anyNonzero (found .bytes) ≡ hasData found
+by-bytes found o = rw o
+
+-- a sector at its turn
+module _ (kind : Kind) (toClear : ℕ → ℕ → Bool) (t s : ℕ) (l : List ℕ) (c : Counts) where
+  pub turn-kept : toClear t s ≡ false → work l c ≡ clearSector kind toClear t s (work l c)
+  unfolding clearSector
+  turn-kept f = rw f
+
+  module _ (f : toClear t s ≡ true) (found : Sector) (q : found ≡ kind .read l t s) where
+    pub turn-same : hasData found ≡ false
+        → record { image = l; free = c .free + 1; changed = c .changed } ≡ clearSector kind toClear t s (work l c)
+    unfolding clearSector cleared
+    turn-same h = rw (f, rw q at h)
+
+    pub turn-changed : hasData found ≡ true → (m : List ℕ) → m ≡ kind .zeroed t s l
+        → record { image = m; free = c .free + 1; changed = c .changed + 1 } ≡ clearSector kind toClear t s (work l c)
+    unfolding clearSector cleared
+    turn-changed h m z = rw (f, rw q at h, z)
+
+-- no more are counted than there are sectors
+pub free-le : (free : ℕ → ℕ → Bool) (t k : ℕ) → freeSectors free t k ≤ k
+unfolding freeSectors
+free-le free t zero = omega arith
+free-le free t (suc k) = let h = free-le free t k in let p = one (free t k) in omega arith
+  where
+    one : (b : Bool) → pick b 1 0 ≤ 1
+    one true = omega arith
+    one false = omega arith
+
+pub tracks-le : (free : ℕ → ℕ → Bool) (k : ℕ) → freeTracks sectorsOf free k ≤ 21 * k
+unfolding freeTracks
+tracks-le free zero = omega arith
+tracks-le free (suc k) = omega (arith, tracks-le free k, free-le free (suc k) (sectorsOf (suc k)), sectors-of (suc k) .1)
+
+-- ---- the whole: one law for each return of `clear_image`
+module _ (kind : Kind) (n : ℕ) (l : List ℕ) (b : Sector) (q : b ≡ kind .read l 18 0) where
+  pub no-bam : b .ok ≡ false → refuse l noDirectory ≡ clearing kind (disk1541 n) bamFree l
+  unfolding withBam
+  no-bam o = rw (← q, o)
+
+  module _ (o : b .ok ≡ true) (k : Chain) (r : k ≡ chainOf (disk1541 n) (kind .read l) (b .bytes)) where
+    pub no-chain : k .ok ≡ false → refuse l wrongLink ≡ clearing kind (disk1541 n) bamFree l
+    unfolding withBam withChain
+    no-chain p = rw (← q, o, ← r, p)
+
+    pub all-cleared : k .ok ≡ true → (m : List ℕ) (c : Counts)
+        → work m c ≡ tracksDone kind sectorsOf (isFree (bamFree (b .bytes)) (k .marks)) 35 (untouched l)
+        → answer m (Cleared (c .free) (c .changed)) ≡ clearing kind (disk1541 n) bamFree l
+    unfolding withBam withChain
+    all-cleared p m c w = rw (← q, o, ← r, p) (ap finish w)

@@ -1,0 +1,55 @@
+-- What the entry points find out before they clear: a law for each way out.
+-- Assumes nothing.
+use mathlib.Core.Path.{_≡_, sym, subst}
+use mathlib.Core.Bool.{true, false}
+use mathlib.Core.List.{List}
+use Prim.Native.Nat.{ℕ}
+use native.Mathlib.Omega.{arith}
+use lib.ListN.{length}
+use Rattle.base.specs.Refusals.{wrongImage}
+use Rattle.geometry.specs.declared.TrackCount.the-variants.{Tracks, NoD64}
+use Rattle.geometry.specs.D64.{tracksOf}
+use Rattle.geometry.proofs.D64Laws.{d64-facts, sum-mono}
+use Rattle.scan.specs.declared.SectorRecord.{SectorRecord}
+use Rattle.sector.specs.declared.Sector.{Sector}
+use Rattle.image.specs.declared.Table.{Table}
+use Rattle.image.specs.Rings.{noTable}
+use Rattle.image.proofs.TableLaws.{AllInside, none-inside}
+use Rattle.reclaim.specs.declared.ImageKind.{ImageKind}
+use Rattle.reclaim.specs.declared.ImageKind.the-variants.{D64}
+use Rattle.reclaim.specs.Disk.{bamFree, disk1541}
+use Rattle.reclaim.specs.Clearing.{refuse, clearing}
+use Rattle.reclaim.specs.Images.{d64Kind, byTracks, clearedD64, ringsKind, byTable}
+use Rattle.reclaim.specs.Contracts.{Complete}
+
+-- a D64 image by its size
+module _ (l : List ℕ) where
+  pub no-d64 : tracksOf (length l) ≡ NoD64 → refuse l wrongImage ≡ clearedD64 l
+  unfolding clearedD64 byTracks
+  no-d64 e = rw e
+
+  module _ (n : ℕ) (e : tracksOf (length l) ≡ Tracks n) where
+    pub as-d64 : clearing d64Kind (disk1541 n) bamFree l ≡ clearedD64 l
+    unfolding clearedD64 byTracks
+    as-d64 = rw e
+
+    pub d64-complete : (table : Table) → table ≡ noTable 0 → Complete D64 table (length l)
+    d64-complete table q =
+        let f = d64-facts (length l) n e in
+        let a = subst (AllInside (length l)) (sym q) (none-inside (length l) 0) in
+        record { sectors = λ _. omega (arith, sum-mono 35 n (f .0), f .2); rings = a .each }
+
+-- an image of rings by its table
+module _ (rule : List SectorRecord → Sector) (l : List ℕ) (table : Table) where
+  pub no-rings : table .ok ≡ false → refuse l (table .number) ≡ byTable rule l table
+  unfolding byTable
+  no-rings o = rw o
+
+  pub as-rings : table .ok ≡ true → clearing (ringsKind rule table) (disk1541 35) bamFree l ≡ byTable rule l table
+  unfolding byTable
+  as-rings o = rw o
+
+pub rings-complete : (kind : ImageKind) → (kind ≡ D64 → ⊥) → (size : ℕ) (table real : Table) → table ≡ real → AllInside size real
+    → Complete kind table size
+rings-complete kind other size table real q all =
+    record { sectors = λ e. absurd (other e); rings = subst (AllInside size) (sym q) all .each }

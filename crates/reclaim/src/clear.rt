@@ -1,0 +1,165 @@
+// The free sectors of an image, one after the other.
+ghost use mathlib.Core.Path.{_≡_};
+ghost use Prim.Native.Nat.{_+_, _*_, _-_, _<_, _≤_};
+ghost use lib.ListN.{length};
+ghost use Rattle.geometry.specs.Zones.{sectorsOf};
+ghost use Rattle.image.specs.D64.{OnTracks};
+ghost use Rattle.reclaim.specs.Disk.{entryFree, bamFree, disk1541};
+ghost use Rattle.reclaim.specs.Clearing.{isFree, hasData, clearSector, sectorsDone, tracksDone, untouched, clearing};
+ghost use Rattle.reclaim.specs.Images.{kindOf};
+ghost use Rattle.reclaim.specs.Contracts.{work, answer, Complete};
+use super::Counts;
+use super::ImageKind;
+use super::Outcome;
+use super::directory;
+use super::kind;
+use image::Table;
+use sector::Sector;
+
+// The BAM has entries for tracks 1 to 35, from byte 4 of 18/0 on; only those tracks are cleared.
+const FIRST_ENTRY: usize = 4;
+
+const FIRST_TRACK: u8 = 1;
+
+pub const LAST_TRACK: u8 = 35;
+
+// Is a sector free by the BAM? The entry of track `first` is at `place`; its count byte is passed over.
+fn is_free(bam: &[u8; 256], place: usize, first: u8, track: u8, sector: u8) -> bool
+    requires { ⌜ (first ≤ track) × (sector < 24) × (place + 4 * (track - first) + 4 ≤ 256) ⌝ }
+    ensures { λ r. ⌜ r ≡ entryFree (now (bam .entry)) place first track sector ⌝ }
+{
+    let at = place + 4 * (track as usize - first as usize) + 1 + (sector as usize) / 8;
+    let byte = bam[at];
+    (byte >> (sector % 8)) & 1 == 1
+}
+
+// Is a sector to be cleared: free by the BAM, and not kept?
+fn to_clear(bam: &[u8; 256], marks: &[bool; 882], track: u8, sector: u8) -> bool
+    requires { ⌜ OnTracks 35 track sector ⌝ }
+    ensures { λ r. ⌜ r ≡ isFree (bamFree (now (bam .entry))) (now (marks .entry)) track sector ⌝ }
+{
+    if !is_free(bam, FIRST_ENTRY, FIRST_TRACK, track, sector) {
+        return false;
+    }
+    let place = directory::mark_place(track, sector);
+    !marks[place]
+}
+
+// Does a sector read, and has it a byte that is not zero?
+fn has_data(found: Sector) -> bool
+    ensures { λ r. ⌜ r ≡ hasData found ⌝ }
+{
+    if !found.ok {
+        return false;
+    }
+    let bytes = found.bytes;
+    base::any_nonzero(&bytes)
+}
+
+// A sector at its turn.
+fn clear_sector(
+    image: &mut [u8],
+    kind: ImageKind,
+    table: Table,
+    bam: &[u8; 256],
+    marks: &[bool; 882],
+    track: u8,
+    sector: u8,
+    counts: Counts,
+) -> Counts
+    requires { ⌜ OnTracks 35 track sector ⌝ }
+    requires { ⌜ Complete kind table (length (now image)) ⌝ }
+    requires { ⌜ (counts .free < 10000) × (counts .changed < 10000) ⌝ }
+    ensures { λ r. ⌜ work (now (image .exit)) r
+        ≡ clearSector (kindOf kind table) (isFree (bamFree (now (bam .entry))) (now (marks .entry))) track sector
+        (work (now (image .entry)) counts) ⌝ }
+{
+    if !to_clear(bam, marks, track, sector) {
+        return counts;
+    }
+    let found = kind::read_sector(image, kind, table, track, sector);
+    if !has_data(found) {
+        return Counts {
+            free: counts.free + 1,
+            changed: counts.changed,
+        };
+    }
+    kind::zero_sector(image, kind, table, track, sector);
+    Counts {
+        free: counts.free + 1,
+        changed: counts.changed + 1,
+    }
+}
+
+fn clear_track(
+    image: &mut [u8],
+    kind: ImageKind,
+    table: Table,
+    bam: &[u8; 256],
+    marks: &[bool; 882],
+    track: u8,
+    start: Counts,
+) -> Counts
+    requires { ⌜ (0 < track) × (track ≤ 35) ⌝ }
+    requires { ⌜ Complete kind table (length (now image)) ⌝ }
+    requires { ⌜ (start .free < 9000) × (start .changed < 9000) ⌝ }
+    ensures { λ r. ⌜ work (now (image .exit)) r
+        ≡ sectorsDone (kindOf kind table) (isFree (bamFree (now (bam .entry))) (now (marks .entry))) track (sectorsOf track)
+        (work (now (image .entry)) start) ⌝ }
+{
+    let n = geometry::sectors_per_track(track);
+    let mut counts = start;
+    let mut sector: u8 = 0;
+    while sector < n {
+        counts = clear_sector(image, kind, table, bam, marks, track, sector, counts);
+        sector += 1;
+    }
+    counts
+}
+
+fn clear_tracks(
+    image: &mut [u8],
+    kind: ImageKind,
+    table: Table,
+    bam: &[u8; 256],
+    marks: &[bool; 882],
+) -> Counts
+    requires { ⌜ Complete kind table (length (now image)) ⌝ }
+    ensures { λ r. ⌜ work (now (image .exit)) r
+        ≡ tracksDone (kindOf kind table) sectorsOf (isFree (bamFree (now (bam .entry))) (now (marks .entry))) 35
+        (untouched (now (image .entry))) ⌝ }
+{
+    let mut counts = Counts {
+        free: 0,
+        changed: 0,
+    };
+    let mut track: u8 = 0;
+    while track < LAST_TRACK {
+        track += 1;
+        counts = clear_track(image, kind, table, bam, marks, track, counts);
+    }
+    counts
+}
+
+// Clears the free sectors of an image of a kind; the chain is read before anything is cleared.
+pub fn clear_image(image: &mut [u8], kind: ImageKind, table: Table, highest: u8) -> Outcome
+    requires { ⌜ highest ≤ 42 ⌝ }
+    requires { ⌜ Complete kind table (length (now image)) ⌝ }
+    ensures { λ r. ⌜ answer (now (image .exit)) r ≡ clearing (kindOf kind table) (disk1541 highest) bamFree (now (image .entry)) ⌝ }
+{
+    let first = kind::read_sector(image, kind, table, 18, 0);
+    if !first.ok {
+        return Outcome::Refused(base::NO_DIRECTORY);
+    }
+    let bam = first.bytes;
+    let kept = directory::directory_chain(image, kind, table, highest, &bam);
+    if !kept.ok {
+        return Outcome::Refused(base::WRONG_LINK);
+    }
+    let marks = kept.marks;
+    let counts = clear_tracks(image, kind, table, &bam, &marks);
+    Outcome::Cleared {
+        free: counts.free,
+        changed: counts.changed,
+    }
+}
