@@ -2,7 +2,7 @@
 --     put-turn                            stores behind a run of stores
 --     bytes-turn, zeros-turn, tab-turn    one store more, of a list, of zeros, of a rule
 -- Assumes nothing.
-use Prim.Native.Nat.{ℕ, _+_, _≤_, _<_}
+use Prim.Native.Nat.{ℕ, _+_, _<_}
 use mathlib.Core.Path.{_≡_, refl, sym, ap, _∙_}
 use mathlib.Core.List.{List, [], _∷_, _++_}
 use native.Mathlib.Numerals.{add-one}

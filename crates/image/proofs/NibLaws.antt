@@ -1,17 +1,15 @@
 -- The NIB table: each way out of the functions that read it.
 -- Assumes nothing.
-use mathlib.Core.Path.{_≡_, refl, sym, ap, _∙_}
+use mathlib.Core.Path.{_≡_}
 use mathlib.Core.Bool.{true}
 use mathlib.Core.List.{List}
-use Prim.Native.Nat.{ℕ, _+_, _*_, _≤_, _<_}
-use lib.ListN.{length}
+use Prim.Native.Nat.{ℕ, _+_, _*_, _≤_}
 use Rattle.nib.specs.declared.Pairs.the-variants.{Count, Refused as NoCatalogue}
 use Rattle.nib.specs.declared.Entry.the-variants.{At as Pair, Absent as NoPair, Refused as NoEntry}
 use Rattle.nib.specs.Catalogue.{catalogueOf, placeOf}
 use Rattle.nib.proofs.Slotting.{entry-is}
 use Rattle.image.specs.declared.Place.{Place}
 use Rattle.image.specs.declared.Place.the-variants.{At, Absent}
-use Rattle.image.specs.declared.Table.{Table}
 use Rattle.image.specs.Rings.{startOf, lengthOf, tableOf, noTable}
 use Rattle.image.specs.Nib.{nibEntry, nibTable}
 use Rattle.image.proofs.G64Laws.{front, front-all}

@@ -12,7 +12,7 @@ use lib.ListN.{length, getD, set, take, drop, replicate, length-append, length-r
 use lib.Seq.{sets, sets-eq}
 use borrow.Author.Tests.{eq-eqb, ne-eqb, lt-ltb, le-ltb}
 use Rattle.base.specs.Choice.{pick}
-use Rattle.base.specs.Lists.{tab, joined}
+use Rattle.base.specs.Lists.{joined}
 use Rattle.base.specs.Refusals.{wrongSum, ringTooLong, noRing, noRoom}
 use Rattle.base.proofs.Lists.{length-tab, length-joined, joined-next}
 use Rattle.base.proofs.Pieces.{put-turn}

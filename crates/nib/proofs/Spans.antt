@@ -2,15 +2,14 @@
 -- Assumes nothing.
 use Prim.Native.Nat.{ℕ, zero, suc, _+_, _-_, _*_, _/_, _%_, _≤_, _<_}
 use mathlib.Core.Path.{_≡_, refl, ap, _∙_}
-use mathlib.Core.Bool.{Bool, true, false}
+use mathlib.Core.Bool.{true, false}
 use mathlib.Core.List.{List, [], _∷_}
 use native.Mathlib.Numerals.{add-one}
 use native.Mathlib.Omega.{arith}
-use lib.Dec.{eqb, ltb, lit<, lit≤}
+use lib.Dec.{ltb, lit<, lit≤}
 use native.Mathlib.Nat.{mod-lt}
 use lib.ListN.{length, getD}
 use borrow.Author.Tests.{eq-eqb, ne-eqb, lt-ltb, le-ltb}
-use Rattle.base.specs.Choice.{pick}
 use Rattle.nib.specs.Orbit.{lowest, highest, middle, agreeing, agreements, estimate, apart, share, better, bestOf, best, chosen}
 use Rattle.nib.specs.declared.Estimate.{Estimate}
 

@@ -1,7 +1,7 @@
 -- The catalogue of a NIB file: from byte 16 on pairs of a code, which is a slot plus 2, and a zone; a code 0 ends them.
 -- The windows follow at byte 256, in the order of the pairs.
 use Prim.Native.Nat.{ℕ, zero, suc, _+_, _*_, _%_}
-use mathlib.Core.Bool.{Bool, true, false, not, _||_, _&&_}
+use mathlib.Core.Bool.{Bool, false, not, _||_, _&&_}
 use mathlib.Core.List.{List, [], _∷_}
 use lib.Dec.{eqb, ltb, leb}
 use lib.ListN.{length, getD, take, drop}

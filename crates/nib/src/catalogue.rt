@@ -2,7 +2,7 @@
 use super::Entry;
 use super::Pairs;
 ghost use mathlib.Core.Path.{_≡_};
-ghost use Prim.Native.Nat.{ℕ, _≤_};
+ghost use Prim.Native.Nat.{_≤_};
 ghost use lib.ListN.{length};
 ghost use Rattle.nib.specs.Catalogue.{isNib, pairs, among, anyFaulty, catalogueOf, placeOf};
 

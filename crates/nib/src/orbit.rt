@@ -1,7 +1,7 @@
 // The orbit of a capture: the first bytes of a window, as many as one turn of the disk took.
 use super::Estimate;
 ghost use mathlib.Core.Path.{_≡_};
-ghost use Prim.Native.Nat.{ℕ, _+_, _-_, _<_, _≤_};
+ghost use Prim.Native.Nat.{_-_, _≤_};
 ghost use lib.ListN.{length};
 ghost use Rattle.nib.specs.Orbit.{
   agreements as agreementsOf,

@@ -2,7 +2,7 @@ use Rattle.image.specs.Nib.{nibEntry}
 use Rattle.image.specs.Rings.{startOf, lengthOf}
 use Rattle.image.proofs.G64Laws.{front, front-none, front-more}
 use Rattle.image.proofs.NibLaws.{table-done}
-use mathlib.Core.Path.{_≡_, refl, sym, ap, _∙_}
+use mathlib.Core.Path.{_≡_, refl, ap, _∙_}
 use Prim.Native.Nat.{_-_, _≤_}
 use native.Mathlib.Omega.{arith}
 use denote.Ref.{now}

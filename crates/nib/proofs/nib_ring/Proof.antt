@@ -1,10 +1,9 @@
 use Rattle.nib.proofs.Slotting.{Held, held, cut, ring-refused, ring-absent, ring-is}
 use Rattle.nib.specs.Slots.{entryOf}
 use Rattle.nib.specs.declared.Entry.the-variants.{At}
-use mathlib.Core.Path.{_≡_, sym, ap, _∙_}
+use mathlib.Core.Path.{_≡_, sym, _∙_}
 use native.Mathlib.Omega.{arith}
 use denote.Ref.{now}
-use lib.ListN.{length}
 use borrow.Author.Needs.{needs}
 use Rattle.nib.proofs.nib_ring.Statement.{statement}
 use Rattle.nib.proofs.nib_ring.Tie as tie

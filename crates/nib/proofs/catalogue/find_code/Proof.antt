@@ -1,5 +1,5 @@
 use Rattle.nib.proofs.Cataloguing.{place-none, place-here, place-on}
-use Rattle.nib.specs.Catalogue.{placeOf, codeAt}
+use Rattle.nib.specs.Catalogue.{placeOf}
 use borrow.Author.Needs.{needs}
 use Prim.Native.Nat.{_≤_}
 use mathlib.Core.Path.{_≡_, refl, sym, _∙_}

@@ -1,5 +1,5 @@
 use Rattle.nib.proofs.Cataloguing.{among-none, among-here, among-on}
-use Rattle.nib.specs.Catalogue.{among, codeAt}
+use Rattle.nib.specs.Catalogue.{among}
 use borrow.Author.Needs.{needs}
 use Prim.Native.Nat.{_≤_}
 use mathlib.Core.Path.{_≡_, refl, sym, _∙_}

@@ -6,7 +6,6 @@ use mathlib.Core.Path.{_≡_, _∙_}
 use mathlib.Core.Logic.{⊎-elim}
 use native.Mathlib.Omega.{arith}
 use denote.Ref.{now}
-use lib.ListN.{length}
 use Rattle.nib.proofs.orbit.agreements.Statement.{statement}
 use Rattle.nib.proofs.orbit.agreements.Tie as tie
 

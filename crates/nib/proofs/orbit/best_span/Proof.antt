@@ -1,7 +1,7 @@
 use Rattle.nib.proofs.Spans.{best-start, best-changes, best-stays}
 use Rattle.nib.specs.Orbit.{bestOf}
 use borrow.Author.Needs.{needs}
-use Prim.Native.Nat.{ℕ, _+_, _-_, _≤_}
+use Prim.Native.Nat.{ℕ, _-_, _≤_}
 use mathlib.Core.Path.{_≡_, refl, sym, ap, _∙_}
 use native.Mathlib.Omega.{arith}
 use denote.Ref.{now}

@@ -1,6 +1,6 @@
 use Rattle.nib.proofs.Spans.{limits, choose-middle, choose-best}
 use Rattle.nib.proofs.Best.{chosen-within}
-use Rattle.nib.specs.Orbit.{lowest, highest, middle, chosen}
+use Rattle.nib.specs.Orbit.{lowest, highest, middle}
 use mathlib.Core.Path.{refl}
 use native.Mathlib.Omega.{arith}
 use denote.Ref.{now}
