@@ -1,26 +1,46 @@
 -- A property of every record of a scan, shown of a record that comes next somewhere.
 --     each-next    by what `NextIs` says of it
+--     each-past    each record lies past the sync end that the scan comes to next
 -- Assumes nothing.
 use Prim.Native.Nat.{ℕ, zero, suc, _+_, _≤_}
-use mathlib.Core.Path.{_≡_, refl, sym, subst}
+use mathlib.Core.Path.{_≡_, refl, sym, ap, _∙_, subst}
 use mathlib.Core.List.{List, [], _∷_}
 use native.Mathlib.Omega.{arith}
+use Rattle.scan.specs.declared.SyncEnd.{SyncEnd}
+use Rattle.scan.specs.declared.SyncEnd.the-variants.{At, Nothing}
 use Rattle.scan.specs.declared.SectorRecord.{SectorRecord}
-use Rattle.scan.specs.Scan.{recordsFrom}
-use Rattle.scan.proofs.ScanLaws.{Every}
-use Rattle.scan.proofs.NextLaws.{NextIs, over, first-is}
+use Rattle.scan.specs.Visit.{visit}
+use Rattle.scan.specs.Scan.{nextSync, recordsFrom}
+use Rattle.scan.proofs.VisitLaws.{Step, skip, good, stepOf}
+use Rattle.scan.proofs.ScanLaws.{Every, onStep, skip-on, good-on}
+use Rattle.scan.proofs.NextLaws.{NextIs, over, at-sync, first-is}
 
-module _ (x : ℕ → ℕ) (track end : ℕ) (P : SectorRecord → Type 0) (one : (b : ℕ) (r : SectorRecord) → NextIs x track end b r → P r) where
-  each-in : (n b : ℕ) → end ≤ n + b → Every P (recordsFrom x track end b)
-  each-in zero b l = subst (Every P) (sym (over x track end b (omega arith))) tt
-  each-in (suc n) b l = by (recordsFrom x track end b) refl (λ m k. each-in n m k)
+module _ (x : ℕ → ℕ) (track end : ℕ) where
+  pub each-next : (P : SectorRecord → Type 0) (b : ℕ) → ((c : ℕ) (r : SectorRecord) → b ≤ c → NextIs x track end c r → P r)
+      → Every P (recordsFrom x track end b)
+  each-next P b one = each-in end b (omega arith) (omega arith)
     where
-      by : (rs : List SectorRecord) → recordsFrom x track end b ≡ rs → ((m : ℕ) → end ≤ n + m → Every P (recordsFrom x track end m))
-          → Every P (recordsFrom x track end b)
-      by [] e ih = subst (Every P) (sym e) tt
-      by (r ∷ rs) e ih =
-          let i : NextIs x track end b r = first-is x track end b r rs e in
-          subst (Every P) (sym (i .left)) (one b r i, ih (r .place + 2600) (omega (arith, i .far)))
+      each-in : (n c : ℕ) → end ≤ n + c → b ≤ c → Every P (recordsFrom x track end c)
+      each-in zero c l m = subst (Every P) (sym (over x track end c (omega arith))) tt
+      each-in (suc n) c l m = by (recordsFrom x track end c) refl (λ d k q. each-in n d k q)
+        where
+          by : (rs : List SectorRecord) → recordsFrom x track end c ≡ rs
+              → ((d : ℕ) → end ≤ n + d → b ≤ d → Every P (recordsFrom x track end d)) → Every P (recordsFrom x track end c)
+          by [] e ih = subst (Every P) (sym e) tt
+          by (r ∷ rs) e ih =
+              let i : NextIs x track end c r = first-is x track end c r rs e in
+              subst (Every P) (sym (i .left)) (one c r m i, ih (r .place + 2600) (omega (arith, i .far)) (omega (arith, i .far)))
 
-  pub each-next : (b : ℕ) → Every P (recordsFrom x track end b)
-  each-next b = each-in end b (omega arith)
+  pub each-far : (b : ℕ) → Every (λ r. b + 100 ≤ r .place) (recordsFrom x track end b)
+  each-far b = each-next (λ r. b + 100 ≤ r .place) b (λ c r l i. omega (arith, i .far))
+
+  pub each-past : (b h : ℕ) → nextSync x end b ≡ At h → Every (λ r. h + 90 ≤ r .place) (recordsFrom x track end b)
+  each-past b h w =
+      subst (Every (λ r. h + 90 ≤ r .place)) (sym (at-sync x track end b h w)) (by (stepOf (visit x track h)) refl)
+    where
+      after : (c : ℕ) → h ≤ c → Every (λ r. h + 90 ≤ r .place) (recordsFrom x track end c)
+      after c l = each-next (λ r. h + 90 ≤ r .place) c (λ d r m i. omega (arith, i .far))
+
+      by : (s : Step) → stepOf (visit x track h) ≡ s → Every (λ r. h + 90 ≤ r .place) (onStep s (recordsFrom x track end))
+      by (skip m) e = after m (omega (arith, skip-on x track h m e))
+      by (good r) e = (good-on x track h r e, after (r .place + 2600) (omega (arith, good-on x track h r e)))

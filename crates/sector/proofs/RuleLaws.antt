@@ -80,7 +80,7 @@ every-place n (r ∷ own) more t (suc i) h = every-place n own more (t .1) i (om
 all-near : (ring : List ℕ) (track : ℕ) → length ring ≤ 65535 → Every (λ r. r .place < 2000000) (recordsIn ring track)
 all-near ring track h =
     subst (Every (λ r. r .place < 2000000)) (whole ring track)
-    (each-next (bitAt ring) track (bits ring) (λ r. r .place < 2000000) (λ b r i. omega (arith, i .near)) 0)
+    (each-next (bitAt ring) track (bits ring) (λ r. r .place < 2000000) 0 (λ c r l i. omega (arith, i .near)))
 
 pub small-places : (ring : List ℕ) (track sector : ℕ) → IsRing ring → (found : Copies) → found ≡ copiesIn sector (recordsIn ring track)
     → SmallPlaces (found .count) (found .places)
