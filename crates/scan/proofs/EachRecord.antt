@@ -1,6 +1,7 @@
 -- A property of every record of a scan, shown of a record that comes next somewhere.
 --     each-next    by what `NextIs` says of it
 --     each-past    each record lies past the sync end that the scan comes to next
+--     all-spaced   each lies 2,600 bits or more after the one before
 -- Assumes nothing.
 use Prim.Native.Nat.{ℕ, zero, suc, _+_, _≤_}
 use mathlib.Core.Path.{_≡_, refl, sym, ap, _∙_, subst}
@@ -44,3 +45,26 @@ module _ (x : ℕ → ℕ) (track end : ℕ) where
       by : (s : Step) → stepOf (visit x track h) ≡ s → Every (λ r. h + 90 ≤ r .place) (onStep s (recordsFrom x track end))
       by (skip m) e = after m (omega (arith, skip-on x track h m e))
       by (good r) e = (good-on x track h r e, after (r .place + 2600) (omega (arith, good-on x track h r e)))
+
+-- records 2,600 bits apart or more
+abbrev pub Spaced : List SectorRecord → Type 0
+Spaced [] = Unit {0}
+Spaced (r ∷ rs) = Every (λ q. r .place + 2600 ≤ q .place) rs × Spaced rs
+
+module _ (x : ℕ → ℕ) (track end : ℕ) where
+  spaced-in : (n b : ℕ) → end ≤ n + b → Spaced (recordsFrom x track end b)
+  spaced-in zero b l = subst Spaced (sym (over x track end b (omega arith))) tt
+  spaced-in (suc n) b l = by (recordsFrom x track end b) refl (λ c k. spaced-in n c k)
+    where
+      by : (rs : List SectorRecord) → recordsFrom x track end b ≡ rs → ((c : ℕ) → end ≤ n + c → Spaced (recordsFrom x track end c))
+          → Spaced (recordsFrom x track end b)
+      by [] e ih = subst Spaced (sym e) tt
+      by (r ∷ rs) e ih =
+          let i : NextIs x track end b r = first-is x track end b r rs e in
+          subst Spaced (sym (i .left)) (
+            each-next x track end (λ q. r .place + 2600 ≤ q .place) (r .place + 2600) (λ c q m j. omega (arith, j .far)),
+            ih (r .place + 2600) (omega (arith, i .far)),
+          )
+
+  pub all-spaced : (b : ℕ) → Spaced (recordsFrom x track end b)
+  all-spaced b = spaced-in end b (omega arith)
