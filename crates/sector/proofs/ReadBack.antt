@@ -97,3 +97,130 @@ written-new (e ∷ es) block ring some high sp d t k l =
         (let h = high c (inr u) in omega arith) (inl (omega (arith, sp .0 c u)))))
         ∙ ap (λ (c : ℕ). bitAt (writeBytes ring e block 325) (c + k)) q
         ∙ written ring e (bitIn block) some (λ n. mod-lt _ (lit< tt)) 2600 k (omega (arith, high e (inl refl))) l
+
+-- ---- the records afterwards
+visits-whole : (ring : List ℕ) (track : ℕ) → visits (bitAt ring) track (bits ring) 0 ≡ visitsOf ring track 0
+visits-whole ring track = rw (zero-mod (8 * length ring), zero-add (8 * length ring))
+
+module _ (ring : List ℕ) (track sector : ℕ) (payload : List ℕ) (is : IsRing ring) (len : length payload ≡ 256)
+    (bytes : (i : ℕ) → getD payload i 0 < 256) (a : Apart ring track sector) where
+  after : List ℕ
+  after = writtenAt (placesFor ring track sector) (dataBlock payload) ring
+
+  same-length : length after ≡ length ring
+  unfolding after
+  same-length = written-length (placesFor ring track sector) (dataBlock payload) ring
+
+  there : (d : ℕ) → In d (placesFor ring track sector) → Any (λ r. r .place ≡ d) (recordsFrom (bitAt ring) track (bits ring) 0)
+  there d t = subst (Any (λ r. r .place ≡ d)) (sym (whole ring track)) (to-come sector d (recordsIn ring track) t)
+
+  rewritten : Rewritten (bitAt ring) (bitAt after) (bits ring) (placesFor ring track sector) payload
+  unfolding after
+  rewritten =
+      record {
+        low = λ d t.
+            (let v = any-every (λ r. 0 + 100 ≤ r .place) d (recordsFrom (bitAt ring) track (bits ring) 0) (each-far (bitAt ring) track (bits ring) 0) (there d t) in
+            omega (arith, v .1, v .2));
+        high = a .inside;
+        same = λ i c. sym (written-else (placesFor ring track sector) (dataBlock payload) ring i (is .some)
+            (outside (placesFor ring track sector) (bits ring) i (λ d t. clear-off (bits ring) d i (a .inside d t) (c d t))));
+        new = written-new (placesFor ring track sector) (dataBlock payload) ring (is .some) (a .inside)
+            (spread-for sector (recordsIn ring track) (subst Spaced (whole ring track) (all-spaced (bitAt ring) track (bits ring) 0)));
+      }
+
+  records-after : recordsIn after track ≡ map (renewed sector payload) (recordsIn ring track)
+  records-after =
+      let n : bits after ≡ bits ring = ap (λ (l : ℕ). 8 * l) same-length in
+      sym (whole after track) ∙ ap (λ (e : ℕ). recordsFrom (bitAt after) track e 0) n
+      ∙ renewed-scan (bitAt ring) (bitAt after) (bits ring) track sector (placesFor ring track sector) payload len bytes rewritten there
+      (subst (Every (λ r. r .sector ≡ sector → In (r .place) (placesFor ring track sector))) (sym (whole ring track))
+      (own-in sector (recordsIn ring track)))
+      (subst (Each (λ v. (Own sector (v .found) → ⊥) → (d : ℕ) → In d (placesFor ring track sector) → Misses (bits ring) d v))
+      (sym (visits-whole ring track)) (a .others))
+      ∙ ap (map (renewed sector payload)) (whole ring track)
+
+-- ---- what the rules make of them
+abbrev anew : List ℕ → SectorRecord → SectorRecord
+anew payload r = record { sector = r .sector; place = r .place; payload = payload }
+
+for-own : (s : ℕ) (payload : List ℕ) (rs : List SectorRecord)
+    → recordsFor s (map (renewed s payload) rs) ≡ map (anew payload) (recordsFor s rs)
+unfolding recordsFor
+for-own s payload [] = refl
+for-own s payload (r ∷ rs) = by (eqb (r .sector) s) refl (for-own s payload rs)
+  where
+    by : (b : Bool) → eqb (r .sector) s ≡ b → recordsFor s (map (renewed s payload) rs) ≡ map (anew payload) (recordsFor s rs)
+        → pick (eqb (pick b (anew payload r) r .sector) s) (pick b (anew payload r) r ∷ recordsFor s (map (renewed s payload) rs))
+            (recordsFor s (map (renewed s payload) rs))
+            ≡ map (anew payload) (pick b (r ∷ recordsFor s rs) (recordsFor s rs))
+    by true e f = rw e (ap (λ (l : List SectorRecord). anew payload r ∷ l) f)
+    by false e f = rw e f
+
+for-other : (s t : ℕ) → t ≢ s → (payload : List ℕ) (rs : List SectorRecord)
+    → recordsFor t (map (renewed s payload) rs) ≡ recordsFor t rs
+unfolding recordsFor
+for-other s t n payload [] = refl
+for-other s t n payload (r ∷ rs) = by (eqb (r .sector) s) refl (for-other s t n payload rs)
+  where
+    by : (b : Bool) → eqb (r .sector) s ≡ b → recordsFor t (map (renewed s payload) rs) ≡ recordsFor t rs
+        → pick (eqb (pick b (anew payload r) r .sector) t) (pick b (anew payload r) r ∷ recordsFor t (map (renewed s payload) rs))
+            (recordsFor t (map (renewed s payload) rs))
+            ≡ pick (eqb (r .sector) t) (r ∷ recordsFor t rs) (recordsFor t rs)
+    by true e f =
+        let m : eqb (r .sector) t ≡ false = eqb-no (r .sector) t (λ q. n (sym q ∙ eq-of (r .sector) s e)) in
+        rw m f
+    by false e f = ap (λ (l : List SectorRecord). pick (eqb (r .sector) t) (r ∷ l) l) f
+
+-- a rule that takes copies takes them with a new payload
+abbrev Takes : (List SectorRecord → Sector) → Type 0
+Takes rule = (payload : List ℕ) (own : List SectorRecord) → rule own .ok ≡ true → rule (map (anew payload) own) ≡ good payload
+
+unique-takes : Takes unique
+unfolding unique
+unique-takes payload [] e = absurd (true≢false (sym e))
+unique-takes payload (r ∷ []) e = refl
+unique-takes payload (r ∷ q ∷ rs) e = absurd (true≢false (sym e))
+
+all-new : (payload : List ℕ) (rs : List SectorRecord) → allLike payload (map (anew payload) rs) ≡ true
+unfolding allLike
+all-new payload [] = refl
+all-new payload (r ∷ rs) = rw (same-refl payload, all-new payload rs)
+
+consistent-takes : Takes consistent
+unfolding consistent
+consistent-takes payload [] e = absurd (true≢false (sym e))
+consistent-takes payload (r ∷ rs) e = ap (λ (b : Bool). pick b (good payload) (refused 12)) (all-new payload rs)
+
+-- ---- the statement
+module _ (rule : List SectorRecord → Sector) (takes : Takes rule) (ring : List ℕ) (track sector : ℕ) (payload : List ℕ) (is : IsRing ring)
+    (len : length payload ≡ 256) (bytes : (i : ℕ) → getD payload i 0 < 256) (a : Apart ring track sector)
+    (ok : readBy rule ring track sector .ok ≡ true) where
+  made : replacedBy rule track sector payload ring ≡ after ring track sector payload is len bytes a
+  unfolding replacedBy after
+  made = rw ok
+
+  told : recordsIn (replacedBy rule track sector payload ring) track ≡ map (renewed sector payload) (recordsIn ring track)
+  told = ap (λ (l : List ℕ). recordsIn l track) made ∙ records-after ring track sector payload is len bytes a
+
+  still : IsRing (replacedBy rule track sector payload ring)
+  still = subst IsRing (sym made) (ring-kept (same-length ring track sector payload is len bytes a) is)
+
+  back : ReadsBack rule ring track sector payload
+  back =
+      record {
+        records = told;
+        own =
+            read-scanned rule (replacedBy rule track sector payload ring) track sector still
+            ∙ ap rule (ap (recordsFor sector) told ∙ for-own sector payload (recordsIn ring track))
+            ∙ takes payload (recordsFor sector (recordsIn ring track)) (ap (λ (s : Sector). s .ok) (sym (read-scanned rule ring track sector is)) ∙ ok);
+        other = λ any s n.
+            read-scanned any (replacedBy rule track sector payload ring) track s still
+            ∙ ap any (ap (recordsFor s) told ∙ for-other sector s n payload (recordsIn ring track))
+            ∙ sym (read-scanned any ring track s is);
+      }
+
+pub unique-back : Statement unique
+unique-back ring track sector payload is len bytes a ok = back unique unique-takes ring track sector payload is len bytes a ok
+
+pub consistent-back : Statement consistent
+consistent-back ring track sector payload is len bytes a ok = back consistent consistent-takes ring track sector payload is len bytes a ok
