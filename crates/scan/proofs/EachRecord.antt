@@ -1,10 +1,12 @@
 -- A property of every record of a scan, shown of a record that comes next somewhere.
 --     each-next    by what `NextIs` says of it
+--     each-good    by the visit that gives it
 --     each-past    each record lies past the sync end that the scan comes to next
 --     all-spaced   each lies 2,600 bits or more after the one before
 -- Assumes nothing.
 use Prim.Native.Nat.{ℕ, zero, suc, _+_, _≤_}
 use mathlib.Core.Path.{_≡_, refl, sym, ap, _∙_, subst}
+use mathlib.Core.Logic.{_⊎_, inl, inr}
 use mathlib.Core.List.{List, [], _∷_}
 use native.Mathlib.Omega.{arith}
 use Rattle.scan.specs.declared.SyncEnd.{SyncEnd}
@@ -13,8 +15,8 @@ use Rattle.scan.specs.declared.SectorRecord.{SectorRecord}
 use Rattle.scan.specs.Visit.{visit}
 use Rattle.scan.specs.Scan.{nextSync, recordsFrom}
 use Rattle.scan.proofs.VisitLaws.{Step, skip, good, stepOf}
-use Rattle.scan.proofs.ScanLaws.{Every, onStep, skip-on, good-on}
-use Rattle.scan.proofs.NextLaws.{NextIs, over, at-sync, first-is}
+use Rattle.scan.proofs.ScanLaws.{Every, Any, onStep, skip-on, good-on, next-found}
+use Rattle.scan.proofs.NextLaws.{NextIs, over, no-sync, at-sync, first-is}
 
 module _ (x : ℕ → ℕ) (track end : ℕ) where
   pub each-next : (P : SectorRecord → Type 0) (b : ℕ) → ((c : ℕ) (r : SectorRecord) → b ≤ c → NextIs x track end c r → P r)
@@ -45,6 +47,35 @@ module _ (x : ℕ → ℕ) (track end : ℕ) where
       by : (s : Step) → stepOf (visit x track h) ≡ s → Every (λ r. h + 90 ≤ r .place) (onStep s (recordsFrom x track end))
       by (skip m) e = after m (omega (arith, skip-on x track h m e))
       by (good r) e = (good-on x track h r e, after (r .place + 2600) (omega (arith, good-on x track h r e)))
+
+-- a record of each kind is one
+pub any-every : (P Q : SectorRecord → Type 0) (rs : List SectorRecord) → Every P rs → Any Q rs → (r : SectorRecord) × P r × Q r
+any-every P Q [] t a = absurd a
+any-every P Q (r ∷ rs) t (inl q) = (r, t .0, q)
+any-every P Q (r ∷ rs) t (inr a) = any-every P Q rs (t .1) a
+
+module _ (x : ℕ → ℕ) (track end : ℕ) (P : SectorRecord → Type 0) (b : ℕ)
+    (one : (c h : ℕ) (r : SectorRecord) → b ≤ c → nextSync x end c ≡ At h → stepOf (visit x track h) ≡ good r → P r) where
+  good-in : (n c : ℕ) → end ≤ n + c → b ≤ c → Every P (recordsFrom x track end c)
+  good-in zero c l m = subst (Every P) (sym (over x track end c (omega arith))) tt
+  good-in (suc n) c l m = by (nextSync x end c) refl (λ d k q. good-in n d k q)
+    where
+      by : (o : SyncEnd) → nextSync x end c ≡ o → ((d : ℕ) → end ≤ n + d → b ≤ d → Every P (recordsFrom x track end d))
+          → Every P (recordsFrom x track end c)
+      by Nothing e ih = subst (Every P) (sym (no-sync x track end c e)) tt
+      by (At h) e ih = subst (Every P) (sym (at-sync x track end c h e)) (step (stepOf (visit x track h)) refl)
+        where
+          past : c + 10 ≤ h
+          past = next-found x end c h e .1 .1
+
+          step : (s : Step) → stepOf (visit x track h) ≡ s → Every P (onStep s (recordsFrom x track end))
+          step (skip d) q = let g = skip-on x track h d q in ih d (omega (arith, past)) (omega (arith, past))
+          step (good r) q =
+              let g = good-on x track h r q in
+              (one c h r m e q, ih (r .place + 2600) (omega (arith, past)) (omega (arith, past)))
+
+  pub each-good : Every P (recordsFrom x track end b)
+  each-good = good-in end b (omega arith) (omega arith)
 
 -- records 2,600 bits apart or more
 abbrev pub Spaced : List SectorRecord → Type 0

@@ -22,14 +22,14 @@ use Rattle.scan.specs.declared.SectorRecord.{SectorRecord}
 use Rattle.scan.specs.Visit.{Visit}
 use Rattle.scan.specs.Scan.{visits, visitsOf, recordsFrom}
 use Rattle.scan.proofs.ScanLaws.{Every, Any, every-map}
-use Rattle.scan.proofs.EachRecord.{each-far, Spaced, all-spaced}
+use Rattle.scan.proofs.EachRecord.{any-every, each-far, Spaced, all-spaced}
 use Rattle.sector.specs.declared.Sector.{Sector}
 use Rattle.sector.specs.Rules.{good, refused, recordsIn, recordsFor, unique, allLike, consistent, readBy}
 use Rattle.sector.specs.Replacing.{dataBlock, writtenAt, placesIn, replacedBy}
 use Rattle.sector.specs.ReadBack.{Own, In, Each, Misses, placesFor, Apart, renewed, ReadsBack, Statement}
 use Rattle.sector.proofs.SectorLaws.{same-refl, read-scanned, length-block, written-length, Outside, written-else}
 use Rattle.sector.proofs.CopiesLaws.{whole}
-use Rattle.sector.proofs.Renewed.{Clear, clear-off, any-every, Rewritten, renewed-scan}
+use Rattle.sector.proofs.Renewed.{Clear, clear-off, Rewritten, renewed-scan}
 
 -- ---- the places of a sector among its ring's records
 to-come : (s d : ℕ) (rs : List SectorRecord) → In d (placesIn (recordsFor s rs)) → Any (λ r. r .place ≡ d) rs
@@ -67,7 +67,7 @@ spread-for s (r ∷ rs) t = by (eqb (r .sector) s) (spread-for s rs (t .1))
   where
     by : (b : Bool) → Spread (placesIn (recordsFor s rs)) → Spread (placesIn (pick b (r ∷ recordsFor s rs) (recordsFor s rs)))
     by true f = (
-      λ e u. (let v = any-every (λ q. r .place + 2600 ≤ q .place) e rs (t .0) (to-come s e rs u) in omega (arith, v .1, v .2)),
+      λ e u. (let v = any-every (λ q. r .place + 2600 ≤ q .place) (λ q. q .place ≡ e) rs (t .0) (to-come s e rs u) in omega (arith, v .1, v .2)),
       f,
     )
     by false f = f
@@ -119,7 +119,7 @@ module _ (ring : List ℕ) (track sector : ℕ) (payload : List ℕ) (is : IsRin
   rewritten =
       record {
         low = λ d t.
-            (let v = any-every (λ r. 0 + 100 ≤ r .place) d (recordsFrom (bitAt ring) track (bits ring) 0) (each-far (bitAt ring) track (bits ring) 0) (there d t) in
+            (let v = any-every (λ r. 0 + 100 ≤ r .place) (λ r. r .place ≡ d) (recordsFrom (bitAt ring) track (bits ring) 0) (each-far (bitAt ring) track (bits ring) 0) (there d t) in
             omega (arith, v .1, v .2));
         high = a .inside;
         same = λ i c. sym (written-else (placesFor ring track sector) (dataBlock payload) ring i (is .some)

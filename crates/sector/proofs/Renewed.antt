@@ -24,7 +24,7 @@ use Rattle.scan.specs.Scan.{nextSync, visits, recordsFrom}
 use Rattle.scan.proofs.VisitLaws.{Step, skip, good, stepHeader, stepOf, visit-good}
 use Rattle.scan.proofs.ScanLaws.{next-yes, next-no, next-found, next-step, stepNext, skip-on, good-on, visits-turn, visit-place, onStep, Every, Any}
 use Rattle.scan.proofs.NextLaws.{over, no-sync, at-sync}
-use Rattle.scan.proofs.EachRecord.{each-next, each-past}
+use Rattle.scan.proofs.EachRecord.{any-every, each-next, each-past}
 use Rattle.scan.proofs.SameBits.{Agree, sync-same, sync-at}
 use Rattle.sector.specs.Replacing.{dataBlock}
 use Rattle.sector.specs.ReadBack.{pastLook, Misses, OwnData, Own, In, Each, renewed}
@@ -47,12 +47,6 @@ clear-off n d i h c k l e =
     by b p (no m) =
         let q : i % n ≡ i - n = mod-eq-sub-mod (omega arith) ∙ mod-eq-of-lt (omega arith) in
         omega arith
-
-pub any-every : (P : SectorRecord → Type 0) (d : ℕ) (rs : List SectorRecord) → Every P rs → Any (λ r. r .place ≡ d) rs
-    → (r : SectorRecord) × P r × (r .place ≡ d)
-any-every P d [] t a = absurd a
-any-every P d (r ∷ rs) t (inl e) = (r, t .0, e)
-any-every P d (r ∷ rs) t (inr a) = any-every P d rs (t .1) a
 
 -- a visit that is the sector's own gives a record of it
 own-step : (s h : ℕ) (f : HeaderFound) → Own s f → (r : SectorRecord) × (stepHeader h f ≡ good r) × (r .sector ≡ s)
@@ -106,7 +100,7 @@ module _ (x y : ℕ → ℕ) (n track sector : ℕ) (places payload : List ℕ) 
       (λ i l′ m′. w .same i (λ d t. ⊎-elim
       (λ (k : d + 2600 ≤ b). inr (omega arith, omega (arith, w .low d t)))
       (λ (k : Any (λ r. r .place ≡ d) (recordsFrom x track n b)).
-      let q = any-every (λ r. h + 90 ≤ r .place) d (recordsFrom x track n b) (each-past x track n b h e) k in
+      let q = any-every (λ r. h + 90 ≤ r .place) (λ r. r .place ≡ d) (recordsFrom x track n b) (each-past x track n b h e) k in
       inl (omega (arith, q .1, q .2)))
       (f .known d t)))
 
@@ -128,7 +122,7 @@ module _ (x y : ℕ → ℕ) (n track sector : ℕ) (places payload : List ℕ) 
       (λ i l m. w .same i (λ d u. ⊎-elim
       (λ (k : d + 2600 ≤ b). inr (omega (arith, next-found x n b h e .1 .1), omega (arith, w .high (r .place) t)))
       (λ (k : Any (λ r. r .place ≡ d) (recordsFrom x track n b)).
-      let v = any-every (λ c. r .place ≤ c .place) d (recordsFrom x track n b) later k in
+      let v = any-every (λ c. r .place ≤ c .place) (λ c. c .place ≡ d) (recordsFrom x track n b) later k in
       inl (omega (arith, v .1, v .2)))
       (f .known d u)))
       (w .new (r .place) t)

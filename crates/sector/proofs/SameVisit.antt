@@ -37,7 +37,7 @@ use Rattle.sector.specs.Replacing.{dataBlock}
 use Rattle.sector.specs.ReadBack.{pastData, pastHeader, pastLook}
 
 -- ---- what the data search looks at
-past-at : (x : ℕ → ℕ) (h d : ℕ) → pastData h (dataAt x d) ≡ d + 2600
+pub past-at : (x : ℕ → ℕ) (h d : ℕ) → pastData h (dataAt x d) ≡ d + 2600
 unfolding dataAt
 past-at x h d = by (headerMark (decodeAt x d 4)) (decodeAt x d 260)
   where
