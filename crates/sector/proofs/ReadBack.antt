@@ -99,7 +99,7 @@ written-new (e ∷ es) block ring some high sp d t k l =
         ∙ written ring e (bitIn block) some (λ n. mod-lt _ (lit< tt)) 2600 k (omega (arith, high e (inl refl))) l
 
 -- ---- the records afterwards
-visits-whole : (ring : List ℕ) (track : ℕ) → visits (bitAt ring) track (bits ring) 0 ≡ visitsOf ring track 0
+pub visits-whole : (ring : List ℕ) (track : ℕ) → visits (bitAt ring) track (bits ring) 0 ≡ visitsOf ring track 0
 visits-whole ring track = rw (zero-mod (8 * length ring), zero-add (8 * length ring))
 
 module _ (ring : List ℕ) (track sector : ℕ) (payload : List ℕ) (is : IsRing ring) (len : length payload ≡ 256)

@@ -161,3 +161,82 @@ module _ (B : ℕ → ℕ) (st ln : ℕ → ℕ) (hh hd : ℕ → Bool) (hn dn :
     each-lies b =
         each-good B track n (λ r. (b + 202 ≤ r .place) × Lies (r .place)) b
         (λ c h r l e g. (omega (arith, good-is c h r e g .0, next-is c h e .past), good-is c h r e g .1))
+
+    -- ---- every visit but a sector's own misses the sector's data blocks
+    module _ (sector : ℕ) (places : List ℕ) (lies : (d : ℕ) → In d places → Lies d) where
+      abbrev OfSector : ℕ → SectorRecord → Type 0
+      OfSector d r = (r .place ≡ d) × (r .sector ≡ sector)
+
+      abbrev Known : ℕ → Type 0
+      Known b = (d : ℕ) → In d places → (d + 2600 ≤ b) ⊎ Any (OfSector d) (recordsFrom B track n b)
+
+      abbrev Spared : Visit → Type 0
+      Spared v = (Own sector (v .found) → ⊥) → (d : ℕ) → In d places → Misses n d v
+
+      -- a block that begins well after this visit's header lies in a later slot
+      later : (b h d : ℕ) → Next b h → Lies d → h + 193 ≤ d → pastLook (visit B track h) ≤ d
+      later b h d x (k, e, m) l = by (decLt (x .slot) k) (decLt k (x .slot))
+        where
+          by : Dec (x .slot < k) → Dec (k < x .slot) → pastLook (visit B track h) ≤ d
+          by (yes a) c = omega (arith, after (x .slot) k a, tr .slot (x .slot) .long, x .look)
+          by (no a) (yes c) = absurd (omega (arith, after k (x .slot) c, tr .slot k .long, x .low))
+          by (no a) (no c) = absurd (let q : st k ≡ st (x .slot) = ap st (omega arith) in omega (arith, x .low))
+
+      module _ (b h : ℕ) (e : nextSync B n b ≡ At h) (known : Known b) where
+        x : Next b h
+        x = next-is b h e
+
+        by-step : (s : Step) → stepOf (visit B track h) ≡ s → recordsFrom B track n b ≡ onStep s (recordsFrom B track n)
+        by-step s q = at-sync B track n b h e ∙ ap (λ (v : Step). onStep v (recordsFrom B track n)) q
+
+        far : (c d : ℕ) → In d places → Any (OfSector d) (recordsFrom B track n c) → c + 202 ≤ d
+        far c d t a =
+            let v = any-every (λ r. (c + 202 ≤ r .place) × Lies (r .place)) (OfSector d) (recordsFrom B track n c) (each-lies c) a in
+            omega (arith, v .1 .0, v .2 .0)
+
+        here : Spared (visit B track h)
+        here o d t = ⊎-elim
+            (λ (k : d + 2600 ≤ b). inr (omega (arith, x .past, visit-place B track h), omega (arith, x .look, x .inside)))
+            (λ (k : Any (OfSector d) (recordsFrom B track n b)). by (stepOf (visit B track h)) refl k)
+            (known d t)
+          where
+            by : (s : Step) → stepOf (visit B track h) ≡ s → Any (OfSector d) (recordsFrom B track n b) → Misses n d (visit B track h)
+            by (skip m) q k =
+                let f = far m d t (subst (Any (OfSector d)) (by-step (skip m) q) k) in
+                inl (later b h d x (lies d t) (omega (arith, skip-on B track h m q)))
+            by (good r) q k = ⊎-elim
+                (λ (u : OfSector d r). absurd (o (step-own sector (visit B track h .place) (visit B track h .found) r q (u .1))))
+                (λ (u : Any (OfSector d) (recordsFrom B track n (r .place + 2600))).
+                (let f = far (r .place + 2600) d t u in
+                inl (later b h d x (lies d t) (omega (arith, good-on B track h r q)))))
+                (subst (Any (OfSector d)) (by-step (good r) q) k)
+
+        next-known : Known (nextBit (visit B track h))
+        next-known d t = subst (λ (c : ℕ). (d + 2600 ≤ c) ⊎ Any (OfSector d) (recordsFrom B track n c)) (sym (next-step (visit B track h)))
+            (by (stepOf (visit B track h)) refl (known d t))
+          where
+            by : (s : Step) → stepOf (visit B track h) ≡ s → (d + 2600 ≤ b) ⊎ Any (OfSector d) (recordsFrom B track n b)
+                → (d + 2600 ≤ stepNext s) ⊎ Any (OfSector d) (recordsFrom B track n (stepNext s))
+            by (skip m) q (inl k) = inl (omega (arith, x .past, skip-on B track h m q))
+            by (skip m) q (inr k) = inr (subst (Any (OfSector d)) (by-step (skip m) q) k)
+            by (good r) q (inl k) = inl (omega (arith, x .past, good-on B track h r q))
+            by (good r) q (inr k) = ⊎-elim
+                (λ (u : OfSector d r). inl (omega (arith, u .0)))
+                (λ (u : Any (OfSector d) (recordsFrom B track n (r .place + 2600))). inr u)
+                (subst (Any (OfSector d)) (by-step (good r) q) k)
+
+      spared-in : (m b : ℕ) → n ≤ m + b → Known b → Each Spared (visits B track n b)
+      spared-in zero b l known = subst (Each Spared) (sym (visits-end B track n (n - b) b (omega arith))) tt
+      spared-in (suc m) b l known = by (nextSync B n b) refl (λ c k f. spared-in m c k f)
+        where
+          by : (o : SyncEnd) → nextSync B n b ≡ o → ((c : ℕ) → n ≤ m + c → Known c → Each Spared (visits B track n c))
+              → Each Spared (visits B track n b)
+          by Nothing e ih = subst (Each Spared) (sym (visits-none B track n (n - b) b e)) tt
+          by (At h) e ih =
+              subst (Each Spared) (sym (visits-turn B track n b h e)) (
+                here b h e known,
+                ih (nextBit (visit B track h)) (omega (arith, next-is b h e .past, visit-on B track h)) (next-known b h e known),
+              )
+
+      pub all-spared : Known 0 → Each Spared (visits B track n 0)
+      all-spared known = spared-in n 0 (omega arith) known

@@ -8,6 +8,7 @@ use lib.Dec.{eqb}
 use lib.ListN.{length, getD}
 use Rattle.base.specs.Choice.{pick}
 use Rattle.ring.specs.Bit.{IsRing, bits}
+use Rattle.track.specs.Slots.{builtTrack}
 use Rattle.scan.specs.declared.SectorRecord.{SectorRecord}
 use Rattle.scan.specs.Visit.{DataFault, NoSync, IllegalData, OtherMarker, FalseData, DataFound, BadData, AnotherHeader, GoodData}
 use Rattle.scan.specs.Visit.{HeaderFound, BadHeader, TrueHeader, Visit}
@@ -98,3 +99,9 @@ Statement rule =
     (ring : List ℕ) (track sector : ℕ) (payload : List ℕ) → IsRing ring → length payload ≡ 256
     → ((i : ℕ) → getD payload i 0 < 256) → Apart ring track sector → readBy rule ring track sector .ok ≡ true
     → ReadsBack rule ring track sector payload
+
+-- every sector of a built track stands apart, whatever the codes
+abbrev pub BuiltApart : Type 0
+BuiltApart =
+    (track : ℕ) (payloads codes : List ℕ) (id1 id2 sector : ℕ) → track < 256 → id1 < 256 → id2 < 256
+    → ((i : ℕ) → getD payloads i 0 < 256) → Apart (builtTrack track payloads codes id1 id2) track sector
