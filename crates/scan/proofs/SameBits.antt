@@ -17,7 +17,7 @@ use Rattle.gcr.specs.Places.{symbolAt, decodeAt}
 use Rattle.scan.specs.declared.SyncEnd.{SyncEnd}
 use Rattle.scan.specs.declared.SyncEnd.the-variants.{At, Nothing}
 use Rattle.scan.specs.Sync.{run, syncFrom}
-use Rattle.scan.specs.Visit.{DataFound, HeaderFound, BadHeader, TrueHeader, NoHeader, FalseHeader, IllegalHeader, at, trueSum, byHeader}
+use Rattle.scan.specs.Visit.{DataFound, HeaderFound, BadHeader, TrueHeader, NoHeader, FalseHeader, at, trueSum, byHeader}
 
 -- the bits of two rings are the same from place a on, before place e
 abbrev pub Agree : (ℕ → ℕ) → (ℕ → ℕ) → ℕ → ℕ → Type 0
@@ -74,21 +74,24 @@ module _ (x y : ℕ → ℕ) where
 
       one : (k : ℕ) → k < 2 * n → symbolAt x (p + 5 * k) ≡ symbolAt y (q + 5 * k)
       one k l =
-          sum (a (5 * k) (omega arith)) (bit k 1 l (omega arith)) (bit k 2 l (omega arith)) (bit k 3 l (omega arith)) (bit k 4 l (omega arith))
+          sum (a (5 * k) (omega arith)) (bit k 1 l (omega arith)) (bit k 2 l (omega arith)) (bit k 3 l (omega arith))
+          (bit k 4 l (omega arith))
 
 -- ---- a header, with another data search in it
 abbrev pub withData : DataFound → HeaderFound → HeaderFound
 withData g (BadHeader fault) = BadHeader fault
 withData g (TrueHeader s i j f) = TrueHeader s i j g
 
+abbrev tested : List ℕ → Bool → Bool → Bool → DataFound → HeaderFound
+tested b m u l f =
+    pick m (pick u (pick l (TrueHeader (at b 2) (at b 5) (at b 4) f) (BadHeader NoHeader)) (BadHeader (FalseHeader (at b 2))))
+    (BadHeader NoHeader)
+
 pub header-same : (track : ℕ) (f g : DataFound) (o : Decoded) → byHeader track g o ≡ withData g (byHeader track f o)
 header-same track f g (IllegalAt k) = refl
 header-same track f g (Bytes b) = by (eqb (at b 0) 0x08 && eqb (at b 3) track) (trueSum b) (ltb (at b 2) (sectorsOf track))
   where
-    by : (m u l : Bool)
-        → pick m (pick u (pick l (TrueHeader (at b 2) (at b 5) (at b 4) g) (BadHeader NoHeader)) (BadHeader (FalseHeader (at b 2)))) (BadHeader NoHeader)
-            ≡ withData g
-                (pick m (pick u (pick l (TrueHeader (at b 2) (at b 5) (at b 4) f) (BadHeader NoHeader)) (BadHeader (FalseHeader (at b 2)))) (BadHeader NoHeader))
+    by : (m u l : Bool) → tested b m u l g ≡ withData g (tested b m u l f)
     by true true true = refl
     by true true false = refl
     by true false l = refl

@@ -113,7 +113,7 @@ module _ (track : ℕ) (payloads codes : List ℕ) (id1 id2 : ℕ) (ht : track <
         → Lies (bitAt built) (st (zoneOf track)) (ln (zoneOf track)) _ _ _ _ tr track (bits built) count round d
     lies d t =
         let v = any-every _ (λ r. (r .place ≡ d) × (r .sector ≡ sector)) (recordsFrom (bitAt built) track (bits built) 0)
-          (each-lies (bitAt built) (st (zoneOf track)) (ln (zoneOf track)) _ _ _ _ tr track (bits built) count round 0) (known d t) in
+        (each-lies (bitAt built) (st (zoneOf track)) (ln (zoneOf track)) _ _ _ _ tr track (bits built) count round 0) (known d t) in
         subst (Lies (bitAt built) (st (zoneOf track)) (ln (zoneOf track)) _ _ _ _ tr track (bits built) count round) (v .2 .0) (v .1 .1)
 
     apart : Apart built track sector

@@ -27,7 +27,7 @@ use Rattle.sector.specs.declared.Sector.{Sector}
 use Rattle.sector.specs.Rules.{good, refused, recordsIn, recordsFor, unique, allLike, consistent, readBy}
 use Rattle.sector.specs.Replacing.{dataBlock, writtenAt, placesIn, replacedBy}
 use Rattle.sector.specs.ReadBack.{Own, In, Each, Misses, placesFor, Apart, renewed, ReadsBack, Statement}
-use Rattle.sector.proofs.SectorLaws.{same-refl, read-scanned, length-block, written-length, Outside, written-else}
+use Rattle.sector.proofs.SectorLaws.{same-refl, read-scanned, ok-ring, length-block, written-length, Outside, written-else}
 use Rattle.sector.proofs.CopiesLaws.{whole}
 use Rattle.sector.proofs.Renewed.{Clear, clear-off, Rewritten, renewed-scan}
 
@@ -67,7 +67,9 @@ spread-for s (r ∷ rs) t = by (eqb (r .sector) s) (spread-for s rs (t .1))
   where
     by : (b : Bool) → Spread (placesIn (recordsFor s rs)) → Spread (placesIn (pick b (r ∷ recordsFor s rs) (recordsFor s rs)))
     by true f = (
-      λ e u. (let v = any-every (λ q. r .place + 2600 ≤ q .place) (λ q. q .place ≡ e) rs (t .0) (to-come s e rs u) in omega (arith, v .1, v .2)),
+      λ e u.
+          (let v = any-every (λ q. r .place + 2600 ≤ q .place) (λ q. q .place ≡ e) rs (t .0) (to-come s e rs u) in
+          omega (arith, v .1, v .2)),
       f,
     )
     by false f = f
@@ -119,7 +121,8 @@ module _ (ring : List ℕ) (track sector : ℕ) (payload : List ℕ) (is : IsRin
   rewritten =
       record {
         low = λ d t.
-            (let v = any-every (λ r. 0 + 100 ≤ r .place) (λ r. r .place ≡ d) (recordsFrom (bitAt ring) track (bits ring) 0) (each-far (bitAt ring) track (bits ring) 0) (there d t) in
+            (let v = any-every (λ r. 0 + 100 ≤ r .place) (λ r. r .place ≡ d) (recordsFrom (bitAt ring) track (bits ring) 0)
+            (each-far (bitAt ring) track (bits ring) 0) (there d t) in
             omega (arith, v .1, v .2));
         high = a .inside;
         same = λ i c. sym (written-else (placesFor ring track sector) (dataBlock payload) ring i (is .some)
@@ -151,8 +154,8 @@ for-own s payload (r ∷ rs) = by (eqb (r .sector) s) refl (for-own s payload rs
   where
     by : (b : Bool) → eqb (r .sector) s ≡ b → recordsFor s (map (renewed s payload) rs) ≡ map (anew payload) (recordsFor s rs)
         → pick (eqb (pick b (anew payload r) r .sector) s) (pick b (anew payload r) r ∷ recordsFor s (map (renewed s payload) rs))
-            (recordsFor s (map (renewed s payload) rs))
-            ≡ map (anew payload) (pick b (r ∷ recordsFor s rs) (recordsFor s rs))
+        (recordsFor s (map (renewed s payload) rs))
+        ≡ map (anew payload) (pick b (r ∷ recordsFor s rs) (recordsFor s rs))
     by true e f = rw e (ap (λ (l : List SectorRecord). anew payload r ∷ l) f)
     by false e f = rw e f
 
@@ -164,8 +167,8 @@ for-other s t n payload (r ∷ rs) = by (eqb (r .sector) s) refl (for-other s t 
   where
     by : (b : Bool) → eqb (r .sector) s ≡ b → recordsFor t (map (renewed s payload) rs) ≡ recordsFor t rs
         → pick (eqb (pick b (anew payload r) r .sector) t) (pick b (anew payload r) r ∷ recordsFor t (map (renewed s payload) rs))
-            (recordsFor t (map (renewed s payload) rs))
-            ≡ pick (eqb (r .sector) t) (r ∷ recordsFor t rs) (recordsFor t rs)
+        (recordsFor t (map (renewed s payload) rs))
+        ≡ pick (eqb (r .sector) t) (r ∷ recordsFor t rs) (recordsFor t rs)
     by true e f =
         let m : eqb (r .sector) t ≡ false = eqb-no (r .sector) t (λ q. n (sym q ∙ eq-of (r .sector) s e)) in
         rw m f
@@ -212,7 +215,8 @@ module _ (rule : List SectorRecord → Sector) (takes : Takes rule) (ring : List
         own =
             read-scanned rule (replacedBy rule track sector payload ring) track sector still
             ∙ ap rule (ap (recordsFor sector) told ∙ for-own sector payload (recordsIn ring track))
-            ∙ takes payload (recordsFor sector (recordsIn ring track)) (ap (λ (s : Sector). s .ok) (sym (read-scanned rule ring track sector is)) ∙ ok);
+            ∙ takes payload (recordsFor sector (recordsIn ring track))
+            (ap (λ (s : Sector). s .ok) (sym (read-scanned rule ring track sector is)) ∙ ok);
         other = λ any s n.
             read-scanned any (replacedBy rule track sector payload ring) track s still
             ∙ ap any (ap (recordsFor s) told ∙ for-other sector s n payload (recordsIn ring track))
@@ -220,7 +224,9 @@ module _ (rule : List SectorRecord → Sector) (takes : Takes rule) (ring : List
       }
 
 pub unique-back : Statement unique
-unique-back ring track sector payload is len bytes a ok = back unique unique-takes ring track sector payload is len bytes a ok
+unique-back ring track sector payload len bytes a ok =
+    back unique unique-takes ring track sector payload (ok-ring unique ring track sector ok) len bytes a ok
 
 pub consistent-back : Statement consistent
-consistent-back ring track sector payload is len bytes a ok = back consistent consistent-takes ring track sector payload is len bytes a ok
+consistent-back ring track sector payload len bytes a ok =
+    back consistent consistent-takes ring track sector payload (ok-ring consistent ring track sector ok) len bytes a ok

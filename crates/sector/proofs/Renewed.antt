@@ -22,7 +22,8 @@ use Rattle.scan.specs.Sync.{syncEnd}
 use Rattle.scan.specs.Visit.{DataFound, BadData, AnotherHeader, GoodData, HeaderFound, BadHeader, TrueHeader, Visit, visit, nextBit}
 use Rattle.scan.specs.Scan.{nextSync, visits, recordsFrom}
 use Rattle.scan.proofs.VisitLaws.{Step, skip, good, stepHeader, stepOf, visit-good}
-use Rattle.scan.proofs.ScanLaws.{next-yes, next-no, next-found, next-step, stepNext, skip-on, good-on, visits-turn, visit-place, onStep, Every, Any}
+use Rattle.scan.proofs.ScanLaws.{next-yes, next-no, next-found, next-step, stepNext, skip-on, good-on}
+use Rattle.scan.proofs.ScanLaws.{visits-turn, visit-place, onStep, Every, Any}
 use Rattle.scan.proofs.NextLaws.{over, no-sync, at-sync}
 use Rattle.scan.proofs.EachRecord.{any-every, each-next, each-past}
 use Rattle.scan.proofs.SameBits.{Agree, sync-same, sync-at}
@@ -67,10 +68,17 @@ module _ (x y : ℕ → ℕ) (n track sector : ℕ) (places payload : List ℕ) 
   abbrev Spared : Visit → Type 0
   Spared v = (Own sector (v .found) → ⊥) → (d : ℕ) → In d places → Misses n d v
 
+  -- a record of the sector stands at one of the places
+  abbrev Owned : SectorRecord → Type 0
+  Owned r = r .sector ≡ sector → In (r .place) places
+
+  abbrev anew : SectorRecord → SectorRecord
+  anew r = record { sector = r .sector; place = r .place; payload = payload }
+
   -- a scan at bit b: each place is done or to come, and the records of the sector that are to come are at places
   record Before (b : ℕ) : Type 0 where
     known : (d : ℕ) → In d places → (d + 2600 ≤ b) ⊎ Any (λ r. r .place ≡ d) (recordsFrom x track n b)
-    owned : Every (λ r. r .sector ≡ sector → In (r .place) places) (recordsFrom x track n b)
+    owned : Every Owned (recordsFrom x track n b)
     spared : Each Spared (visits x track n b)
 
   -- the search for the next sync end
@@ -166,7 +174,7 @@ module _ (x y : ℕ → ℕ) (n track sector : ℕ) (places payload : List ℕ) 
               (λ (k : d + 2600 ≤ b). inl (omega (arith, past, skip-on x track h m q)))
               (λ (k : Any (λ r. r .place ≡ d) (recordsFrom x track n b)). inr (subst (Any (λ r. r .place ≡ d)) (by-x (skip m) q) k))
               (f .known d t);
-          owned = subst (Every (λ r. r .sector ≡ sector → In (r .place) places)) (by-x (skip m) q) (f .owned);
+          owned = subst (Every Owned) (by-x (skip m) q) (f .owned);
           spared = there m (ap stepNext q);
         }
 
@@ -180,7 +188,7 @@ module _ (x y : ℕ → ℕ) (n track sector : ℕ) (places payload : List ℕ) 
               (λ (u : Any (λ r. r .place ≡ d) (recordsFrom x track n (r .place + 2600))). inr u)
               (subst (Any (λ r. r .place ≡ d)) (by-x (good r) q) k))
               (f .known d t);
-          owned = subst (Every (λ r. r .sector ≡ sector → In (r .place) places)) (by-x (good r) q) (f .owned) .1;
+          owned = subst (Every Owned) (by-x (good r) q) (f .owned) .1;
           spared = there (r .place + 2600) (ap stepNext q);
         }
 
@@ -215,15 +223,15 @@ module _ (x y : ℕ → ℕ) (n track sector : ℕ) (places payload : List ℕ) 
         by : Dec (r .sector ≡ sector)
             → recordsFrom y track n b ≡ renewed sector payload r ∷ map (renewed sector payload) (recordsFrom x track n (r .place + 2600))
         by (yes s) =
-            let t : In (r .place) places = subst (Every (λ r. r .sector ≡ sector → In (r .place) places)) (by-x (good r) q) (f .owned) .0 s in
+            let t : In (r .place) places = subst (Every Owned) (by-x (good r) q) (f .owned) .0 s in
             by-y _ (own-visit b h f e r q (by-x (good r) q) t)
             ∙ ap₂ {C = List SectorRecord} (λ c cs. c ∷ cs)
-            (ap (λ (u : Bool). pick u (record { sector = r .sector; place = r .place; payload = payload }) r) (sym (eqb-yes (r .sector) sector s))) rest
+            (ap (λ (u : Bool). pick u (anew r) r) (sym (eqb-yes (r .sector) sector s))) rest
         by (no s) =
             let v : visit x track h ≡ visit y track h = other-visit h here (λ o. not-own s o) in
             by-y (good r) (ap stepOf (sym v) ∙ q)
             ∙ ap₂ {C = List SectorRecord} (λ c cs. c ∷ cs)
-            (ap (λ (u : Bool). pick u (record { sector = r .sector; place = r .place; payload = payload }) r) (sym (eqb-no (r .sector) sector s))) rest
+            (ap (λ (u : Bool). pick u (anew r) r) (sym (eqb-no (r .sector) sector s))) rest
 
   go : (m b : ℕ) → n ≤ m + b → Before b → recordsFrom y track n b ≡ map (renewed sector payload) (recordsFrom x track n b)
   go zero b l f =
@@ -237,11 +245,12 @@ module _ (x y : ℕ → ℕ) (n track sector : ℕ) (places payload : List ℕ) 
           no-sync y track n b (next-none b f e) ∙ ap (map (renewed sector payload)) (sym (no-sync x track n b e))
       by (At h) e ih = step (stepOf (visit x track h)) refl
         where
-          step : (s : Step) → stepOf (visit x track h) ≡ s → recordsFrom y track n b ≡ map (renewed sector payload) (recordsFrom x track n b)
+          step : (s : Step) → stepOf (visit x track h) ≡ s
+              → recordsFrom y track n b ≡ map (renewed sector payload) (recordsFrom x track n b)
           step (skip c) q = skipped b h f e c q (ih c (omega (arith, past b h f e, skip-on x track h c q)))
           step (good r) q = found b h f e r q (ih (r .place + 2600) (omega (arith, past b h f e, good-on x track h r q)))
 
   pub renewed-scan : ((d : ℕ) → In d places → Any (λ r. r .place ≡ d) (recordsFrom x track n 0))
-      → Every (λ r. r .sector ≡ sector → In (r .place) places) (recordsFrom x track n 0) → Each Spared (visits x track n 0)
+      → Every Owned (recordsFrom x track n 0) → Each Spared (visits x track n 0)
       → recordsFrom y track n 0 ≡ map (renewed sector payload) (recordsFrom x track n 0)
   renewed-scan k o s = go n 0 (omega arith) (record { known = λ d t. inr (k d t); owned = o; spared = s })

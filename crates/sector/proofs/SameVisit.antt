@@ -28,7 +28,7 @@ use Rattle.scan.specs.declared.SyncEnd.{SyncEnd}
 use Rattle.scan.specs.declared.SyncEnd.the-variants.{At, Nothing}
 use Rattle.scan.specs.declared.SectorRecord.{SectorRecord}
 use Rattle.scan.specs.Sync.{syncEnd}
-use Rattle.scan.specs.Visit.{DataFound, BadData, AnotherHeader, GoodData, HeaderFound, BadHeader, TrueHeader, NoSync, IllegalData, OtherMarker, FalseData}
+use Rattle.scan.specs.Visit.{DataFound, BadData, AnotherHeader, GoodData, OtherMarker, FalseData, HeaderFound, BadHeader, TrueHeader}
 use Rattle.scan.specs.Visit.{Visit, at, payloadIn, byData, headerMark, dataAt, bySync, dataFor, byHeader, visit}
 use Rattle.scan.proofs.VisitLaws.{Header, header→, header←, Data, payloadAt, data→, Good, good, stepOf, visit-yes}
 use Rattle.scan.proofs.ScanLaws.{found-sync}
@@ -126,7 +126,7 @@ module _ (payload : List ℕ) (len : length payload ≡ 256) (bytes : (i : ℕ) 
       let p : payloadIn (dataBytes 1 payload) ≡ payload = take-at payload rest 256 len in
       let z : 256 ≡ length payload + 0 = omega arith in
       let q : at (dataBytes 1 payload) 257 ≡ xorOf payload =
-        ap (λ (k : ℕ). getD (payload ++ rest) k 0) z ∙ getD-append-add payload rest 0 0 in
+      ap (λ (k : ℕ). getD (payload ++ rest) k 0) z ∙ getD-append-add payload rest 0 0 in
       ap₂ (λ (b : Bool) (l : List ℕ). pick b (GoodData d l) (BadData (FalseData d)))
       (eqb-yes (xorOf (payloadIn (dataBytes 1 payload))) (at (dataBytes 1 payload) 257) (ap xorOf p ∙ sym q)) p
 
@@ -134,7 +134,9 @@ module _ (payload : List ℕ) (len : length payload ≡ 256) (bytes : (i : ℕ) 
       (new : (k : ℕ) → k < 2600 → y (r .place + k) ≡ bitIn (dataBlock payload) k) where
     written-data : byData (r .place) (decodeAt y (r .place) 260) ≡ GoodData (r .place) payload
     written-data =
-        ap (byData (r .place)) (decode-same y (bitIn (dataBlock payload)) (r .place) 0 260 (λ i l. new i l ∙ ap (bitIn (dataBlock payload)) (omega arith)) ∙ block-back)
+        ap (byData (r .place))
+        (decode-same y (bitIn (dataBlock payload)) (r .place) 0 260 (λ i l. new i l ∙ ap (bitIn (dataBlock payload)) (omega arith))
+        ∙ block-back)
         ∙ good-block (r .place)
 
     far : h + 90 ≤ r .place
@@ -153,8 +155,8 @@ module _ (payload : List ℕ) (len : length payload ≡ 256) (bytes : (i : ℕ) 
     pub visit-renew : stepOf (visit y track h) ≡ good (record { sector = r .sector; place = r .place; payload = payload })
     visit-renew =
         let e : byHeader track (dataFor y h) (decodeAt y h 8) ≡ TrueHeader (byteAt x h 2) (byteAt x h 5) (byteAt x h 4) (dataFor y h) =
-          ap (byHeader track (dataFor y h)) (sym (decode-same x y h h 8 (λ i l. a (h + i) (omega arith) (omega (arith, far)))))
-          ∙ header← x track h (dataFor y h) (g .header) in
+        ap (byHeader track (dataFor y h)) (sym (decode-same x y h h 8 (λ i l. a (h + i) (omega arith) (omega (arith, far)))))
+        ∙ header← x track h (dataFor y h) (g .header) in
         let t = header→ y track h (byteAt x h 2) (byteAt x h 5) (byteAt x h 4) (dataFor y h) (dataFor y h) e in
         let w = data→ y (r .place) (r .place) payload written-data in
         visit-yes y track h (r .place) (t .0) searched (w .0)

@@ -19,7 +19,8 @@ use Rattle.scan.specs.Visit.{bySync, dataFor, byHeader, visit, nextBit}
 use Rattle.scan.specs.Scan.{nextSync, visits, recordsFrom}
 use Rattle.scan.proofs.SyncLaws.{SyncAt}
 use Rattle.scan.proofs.VisitLaws.{header→, Step, skip, good, stepHeader, stepOf, visit-good}
-use Rattle.scan.proofs.ScanLaws.{found-sync, next-found, next-step, stepNext, visit-place, visit-on, skip-on, good-on, visits-end, visits-none, visits-turn, onStep, Every, Any}
+use Rattle.scan.proofs.ScanLaws.{found-sync, next-found, next-step, stepNext, visit-place, visit-on, skip-on, good-on}
+use Rattle.scan.proofs.ScanLaws.{visits-end, visits-none, visits-turn, onStep, Every, Any}
 use Rattle.scan.proofs.NextLaws.{at-sync}
 use Rattle.scan.proofs.EachRecord.{any-every, each-good}
 use Rattle.sector.specs.ReadBack.{pastData, pastHeader, pastLook, Misses, OwnData, Own, In, Each}
@@ -48,6 +49,14 @@ module _ (B : ℕ → ℕ) (st ln : ℕ → ℕ) (hh hd : ℕ → Bool) (hn dn :
   abbrev In-slot : ℕ → ℕ → Type 0
   In-slot h k = (h ≡ st k + 40) ⊎ (h ≡ st k + 232)
 
+  slot-low : (h k : ℕ) → In-slot h k → st k + 40 ≤ h
+  slot-low h k (inl e) = omega arith
+  slot-low h k (inr e) = omega arith
+
+  slot-high : (h k : ℕ) → In-slot h k → h ≤ st k + 232
+  slot-high h k (inl e) = omega arith
+  slot-high h k (inr e) = omega arith
+
   place-run : (q k : ℕ) → Place q (st k) (hh k) (hd k) → (i : ℕ) → q ≤ i + 40 → i < q → B i ≡ 1
   place-run q k (at-header t e) i l m = ap B (omega arith) ∙ tr .slot k .sync1 t (i - st k) (omega arith)
   place-run q k (at-block t e) i l m = ap B (omega arith) ∙ tr .slot k .sync2 t (i - st k) (omega arith) (omega arith)
@@ -73,10 +82,10 @@ module _ (B : ℕ → ℕ) (st ln : ℕ → ℕ) (hh hd : ℕ → Bool) (hn dn :
   search-in : (h k d : ℕ) → In-slot h k → syncEnd B (h + 80) 768 ≡ At d → (h ≡ st k + 40) × (d ≡ st k + 232)
   search-in h k d s e =
       let f = found-sync B (h + 80) 768 d e in
-      let g : (st k + 40 ≤ h) × (h ≤ st k + 232) = ⊎-elim (λ (y : h ≡ st k + 40). (omega arith, omega arith)) (λ (y : h ≡ st k + 232). (omega arith, omega arith)) s in
-      by g (f .1) (f .2) (real d (omega (arith, f .1)) (f .0))
+      by (slot-low h k s, slot-high h k s) (f .1) (f .2) (real d (omega (arith, f .1)) (f .0))
     where
-      by : (st k + 40 ≤ h) × (h ≤ st k + 232) → h + 80 + 10 ≤ d → d < h + 80 + 768 → (j : ℕ) × In-slot d j → (h ≡ st k + 40) × (d ≡ st k + 232)
+      by : (st k + 40 ≤ h) × (h ≤ st k + 232) → h + 80 + 10 ≤ d → d < h + 80 + 768 → (j : ℕ) × In-slot d j
+          → (h ≡ st k + 40) × (d ≡ st k + 232)
       by g l1 l2 (j, u) = at (decLt k j) (decLt j k) u
         where
           at : Dec (k < j) → Dec (j < k) → In-slot d j → (h ≡ st k + 40) × (d ≡ st k + 232)
@@ -93,7 +102,7 @@ module _ (B : ℕ → ℕ) (st ln : ℕ → ℕ) (hh hd : ℕ → Bool) (hn dn :
   past-data h k s = by (syncEnd B (h + 80) 768) refl
     where
       by : (o : SyncEnd) → syncEnd B (h + 80) 768 ≡ o → pastData h (bySync B o) ≤ st k + 2832
-      by Nothing e = ⊎-elim (λ (y : h ≡ st k + 40). omega arith) (λ (y : h ≡ st k + 232). omega arith) s
+      by Nothing e = omega (arith, slot-high h k s)
       by (At d) e = omega (arith, past-at B h d, search-in h k d s e .1)
 
   past-in : (track h k : ℕ) → In-slot h k → pastLook (visit B track h) ≤ st k + 2832
@@ -101,7 +110,7 @@ module _ (B : ℕ → ℕ) (st ln : ℕ → ℕ) (hh hd : ℕ → Bool) (hn dn :
   past-in track h k s = by (byHeader track (dataFor B h) (decodeAt B h 8)) refl
     where
       by : (o : HeaderFound) → byHeader track (dataFor B h) (decodeAt B h 8) ≡ o → pastHeader h o ≤ st k + 2832
-      by (BadHeader fault) e = ⊎-elim (λ (y : h ≡ st k + 40). omega arith) (λ (y : h ≡ st k + 232). omega arith) s
+      by (BadHeader fault) e = omega (arith, slot-high h k s)
       by (TrueHeader t i j f) e =
           subst (λ (g : DataFound). pastData h g ≤ st k + 2832) (sym (header→ B track h t i j f (dataFor B h) e .2)) (past-data h k s)
 
@@ -135,14 +144,13 @@ module _ (B : ℕ → ℕ) (st ln : ℕ → ℕ) (hh hd : ℕ → Bool) (hn dn :
       where
         by : b + 10 ≤ h → h < n + 16 → (k : ℕ) × In-slot h k → Next b h
         by p q (k, s) =
-            let lo : st k + 40 ≤ h = ⊎-elim (λ (y : h ≡ st k + 40). omega arith) (λ (y : h ≡ st k + 232). omega arith) s in
             record {
               slot = k;
               lies = s;
               past = p;
-              low = lo;
-              high = ⊎-elim (λ (y : h ≡ st k + 40). omega arith) (λ (y : h ≡ st k + 232). omega arith) s;
-              inside = ends k (omega arith);
+              low = slot-low h k s;
+              high = slot-high h k s;
+              inside = ends k (omega (arith, slot-low h k s));
               look = past-in track h k s;
             }
 

@@ -7,14 +7,14 @@ use mathlib.Core.List.{List, [], _∷_, map}
 use lib.Dec.{eqb}
 use lib.ListN.{length, getD}
 use Rattle.base.specs.Choice.{pick}
-use Rattle.ring.specs.Bit.{IsRing, bits}
+use Rattle.ring.specs.Bit.{bits}
 use Rattle.track.specs.Slots.{builtTrack}
 use Rattle.scan.specs.declared.SectorRecord.{SectorRecord}
 use Rattle.scan.specs.Visit.{DataFault, NoSync, IllegalData, OtherMarker, FalseData, DataFound, BadData, AnotherHeader, GoodData}
 use Rattle.scan.specs.Visit.{HeaderFound, BadHeader, TrueHeader, Visit}
 use Rattle.scan.specs.Scan.{visitsOf}
 use Rattle.sector.specs.declared.Sector.{Sector}
-use Rattle.sector.specs.Rules.{good, recordsIn, recordsFor, unique, consistent, readBy}
+use Rattle.sector.specs.Rules.{good, recordsIn, recordsFor, readBy}
 use Rattle.sector.specs.Replacing.{placesIn, replacedBy}
 
 -- ---- what a visit looks at: from its place on, before this one
@@ -96,9 +96,8 @@ pub record ReadsBack (rule : List SectorRecord → Sector) (ring : List ℕ) (tr
 -- the statement: whatever is written where it is not refused is read back
 abbrev pub Statement : (List SectorRecord → Sector) → Type 0
 Statement rule =
-    (ring : List ℕ) (track sector : ℕ) (payload : List ℕ) → IsRing ring → length payload ≡ 256
-    → ((i : ℕ) → getD payload i 0 < 256) → Apart ring track sector → readBy rule ring track sector .ok ≡ true
-    → ReadsBack rule ring track sector payload
+    (ring : List ℕ) (track sector : ℕ) (payload : List ℕ) → length payload ≡ 256 → ((i : ℕ) → getD payload i 0 < 256)
+    → Apart ring track sector → readBy rule ring track sector .ok ≡ true → ReadsBack rule ring track sector payload
 
 -- every sector of a built track stands apart, whatever the codes
 abbrev pub BuiltApart : Type 0

@@ -48,7 +48,7 @@ returns-2 c =
     let o = not-false (a .answer .ok) (e .if1 .left) in
     let b = block-laid (a .«data» .now) _ (p .put-data-block .last .0) refl (p .put-data-block .ensures) in (
       rw o,
-      rw o (w .write-at .ensures ∙ ap (λ (y : List ℕ). writtenAt (take (a .found .count) (a .found .places)) y (a .ring .now)) b),
+      rw (o, ← b) (w .write-at .ensures),
     )
 
 pub rewrite-spec : {M : Type 1} → statement M
