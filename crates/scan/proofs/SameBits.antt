@@ -3,7 +3,7 @@
 --     decode-same           a block that stands at a place of one ring and at a place of another
 --     header-same           a header, whatever its data search comes to
 -- Assumes nothing.
-use mathlib.Core.Path.{_≡_, refl, sym, ap, _∙_, subst}
+use mathlib.Core.Path.{_≡_, refl, ap, _∙_, subst}
 use mathlib.Core.Bool.{Bool, true, false, _&&_}
 use mathlib.Core.List.{List}
 use Prim.Native.Nat.{ℕ, zero, suc, _+_, _-_, _*_, _≤_, _<_}
@@ -15,7 +15,7 @@ use Rattle.geometry.specs.Zones.{sectorsOf}
 use Rattle.gcr.specs.Symbols.{Decoded, Bytes, IllegalAt, fromSymbols}
 use Rattle.gcr.specs.Places.{symbolAt, decodeAt}
 use Rattle.scan.specs.declared.SyncEnd.{SyncEnd}
-use Rattle.scan.specs.declared.SyncEnd.the-variants.{At, Nothing}
+use Rattle.scan.specs.declared.SyncEnd.the-variants.{At}
 use Rattle.scan.specs.Sync.{run, syncFrom}
 use Rattle.scan.specs.Visit.{DataFound, HeaderFound, BadHeader, TrueHeader, NoHeader, FalseHeader, at, trueSum, byHeader}
 

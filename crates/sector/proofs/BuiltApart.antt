@@ -1,13 +1,12 @@
 -- Every sector of a built track stands apart (specs/ReadBack.antt), so what is written there is read back.
 -- Assumes nothing.
 use mathlib.Core.Path.{_≡_, refl, sym, ap, ap₂, _∙_, subst}
-use mathlib.Core.Logic.{_⊎_, inl, inr, ⊎-elim}
+use mathlib.Core.Logic.{_⊎_, inl, inr}
 use mathlib.Core.Bool.{Bool, true, false, not}
 use mathlib.Core.List.{List, [], _∷_}
-use Prim.Native.Nat.{ℕ, zero, suc, _+_, _-_, _*_, _/_, _%_, _≤_, _<_}
+use Prim.Native.Nat.{ℕ, _+_, _-_, _*_, _/_, _%_, _≤_, _<_}
 use native.Mathlib.Omega.{arith}
 use native.Mathlib.Decide.{decLt}
-use native.Mathlib.Nat.{zero-add}
 use lib.Arith.{digits-div, digits-mod}
 use lib.Dec.{eqb}
 use lib.ListN.{length, getD, List·getD-eq-default}
@@ -26,7 +25,7 @@ use Rattle.track.proofs.SlotBits.{headed}
 use Rattle.track.proofs.TrackBits.{slotAt, st, ln, length-ring, ring-track}
 use Rattle.track.proofs.Meaning.{header-lt, data-long, data-lt, mark-is}
 use Rattle.scan.specs.declared.SectorRecord.{SectorRecord}
-use Rattle.scan.specs.Scan.{visits, visitsOf, recordsFrom}
+use Rattle.scan.specs.Scan.{recordsFrom}
 use Rattle.scan.proofs.ScanLaws.{Every, Any}
 use Rattle.scan.proofs.EachRecord.{any-every}
 use Rattle.sector.specs.Rules.{recordsIn, recordsFor}

@@ -1,25 +1,23 @@
 -- What is read after a sector was replaced (specs/ReadBack.antt).
 --     unique-back, consistent-back    the statement, for both rules
 -- Assumes nothing.
-use mathlib.Core.Path.{_≡_, refl, sym, ap, ap₂, _∙_, subst}
-use mathlib.Core.Logic.{_≢_, _⊎_, inl, inr, ⊎-elim}
-use mathlib.Core.Bool.{Bool, true, false, _&&_, true≢false}
-use mathlib.Core.List.{List, [], _∷_, _++_, map}
-use Prim.Native.Nat.{ℕ, zero, suc, _+_, _-_, _*_, _%_, _≤_, _<_}
+use mathlib.Core.Path.{_≡_, refl, sym, ap, _∙_, subst}
+use mathlib.Core.Logic.{_≢_, _⊎_, inl, inr}
+use mathlib.Core.Bool.{Bool, true, false, true≢false}
+use mathlib.Core.List.{List, [], _∷_, map}
+use Prim.Native.Nat.{ℕ, _+_, _-_, _*_, _%_, _≤_, _<_}
 use native.Mathlib.Nat.{mod-lt, zero-mod, zero-add}
 use native.Mathlib.Omega.{arith}
 use lib.Dec.{eqb, lit<}
 use lib.ListN.{length, getD}
 use Rattle.base.specs.Choice.{pick}
 use Rattle.base.specs.Bits.{bitIn}
-use Rattle.base.specs.Bytes.{sameBytes}
 use Rattle.base.proofs.Tests.{eqb-yes, eqb-no, eq-of}
 use Rattle.ring.specs.Bit.{IsRing, bits, bitAt}
 use Rattle.ring.specs.Run.{writeBytes}
 use Rattle.ring.proofs.RingLaws.{ring-kept, length-writeBits}
 use Rattle.ring.proofs.Written.{written}
 use Rattle.scan.specs.declared.SectorRecord.{SectorRecord}
-use Rattle.scan.specs.Visit.{Visit}
 use Rattle.scan.specs.Scan.{visits, visitsOf, recordsFrom}
 use Rattle.scan.proofs.ScanLaws.{Every, Any, every-map}
 use Rattle.scan.proofs.EachRecord.{any-every, each-far, Spaced, all-spaced}
@@ -27,9 +25,9 @@ use Rattle.sector.specs.declared.Sector.{Sector}
 use Rattle.sector.specs.Rules.{good, refused, recordsIn, recordsFor, unique, allLike, consistent, readBy}
 use Rattle.sector.specs.Replacing.{dataBlock, writtenAt, placesIn, replacedBy}
 use Rattle.sector.specs.ReadBack.{Own, In, Each, Misses, placesFor, Apart, renewed, ReadsBack, Statement}
-use Rattle.sector.proofs.SectorLaws.{same-refl, read-scanned, ok-ring, length-block, written-length, Outside, written-else}
+use Rattle.sector.proofs.SectorLaws.{same-refl, read-scanned, ok-ring, written-length, Outside, written-else}
 use Rattle.sector.proofs.CopiesLaws.{whole}
-use Rattle.sector.proofs.Renewed.{Clear, clear-off, Rewritten, renewed-scan}
+use Rattle.sector.proofs.Renewed.{clear-off, Rewritten, renewed-scan}
 
 -- ---- the places of a sector among its ring's records
 to-come : (s d : ℕ) (rs : List SectorRecord) → In d (placesIn (recordsFor s rs)) → Any (λ r. r .place ≡ d) rs

@@ -4,13 +4,12 @@
 -- Assumes nothing.
 use mathlib.Core.Path.{_≡_, refl, sym, ap, ap₂, _∙_, subst}
 use mathlib.Core.Logic.{_≢_, _⊎_, inl, inr, ⊎-elim}
-use mathlib.Core.Bool.{Bool, true, false}
-use mathlib.Core.List.{List, [], _∷_, _++_, map}
-use Prim.Native.Nat.{ℕ, zero, suc, _+_, _-_, _*_, _%_, _≤_, _<_}
-use native.Mathlib.Nat.{mod-eq-of-lt, add-mod-left, mod-eq-sub-mod}
+use mathlib.Core.Bool.{Bool}
+use mathlib.Core.List.{List, [], _∷_, map}
+use Prim.Native.Nat.{ℕ, zero, suc, _+_, _-_, _%_, _≤_, _<_}
+use native.Mathlib.Nat.{mod-eq-of-lt, mod-eq-sub-mod}
 use native.Mathlib.Omega.{arith}
 use native.Mathlib.Decide.{decLt, ℕ-discrete}
-use lib.Dec.{eqb}
 use lib.ListN.{length, getD}
 use Rattle.base.specs.Choice.{pick}
 use Rattle.base.specs.Bits.{bitIn}
@@ -18,17 +17,16 @@ use Rattle.base.proofs.Tests.{eqb-yes, eqb-no}
 use Rattle.scan.specs.declared.SyncEnd.{SyncEnd}
 use Rattle.scan.specs.declared.SyncEnd.the-variants.{At, Nothing}
 use Rattle.scan.specs.declared.SectorRecord.{SectorRecord}
-use Rattle.scan.specs.Sync.{syncEnd}
-use Rattle.scan.specs.Visit.{DataFound, BadData, AnotherHeader, GoodData, HeaderFound, BadHeader, TrueHeader, Visit, visit, nextBit}
+use Rattle.scan.specs.Visit.{BadData, AnotherHeader, GoodData, HeaderFound, BadHeader, TrueHeader, Visit, visit, nextBit}
 use Rattle.scan.specs.Scan.{nextSync, visits, recordsFrom}
 use Rattle.scan.proofs.VisitLaws.{Step, skip, good, stepHeader, stepOf, visit-good}
 use Rattle.scan.proofs.ScanLaws.{next-yes, next-no, next-found, next-step, stepNext, skip-on, good-on}
 use Rattle.scan.proofs.ScanLaws.{visits-turn, visit-place, onStep, Every, Any}
 use Rattle.scan.proofs.NextLaws.{over, no-sync, at-sync}
 use Rattle.scan.proofs.EachRecord.{any-every, each-next, each-past}
-use Rattle.scan.proofs.SameBits.{Agree, sync-same, sync-at}
+use Rattle.scan.proofs.SameBits.{sync-same, sync-at}
 use Rattle.sector.specs.Replacing.{dataBlock}
-use Rattle.sector.specs.ReadBack.{pastLook, Misses, OwnData, Own, In, Each, renewed}
+use Rattle.sector.specs.ReadBack.{pastLook, Misses, Own, In, Each, renewed}
 use Rattle.sector.proofs.SameVisit.{visit-same, visit-renew}
 
 -- place i is clear of the 2,600 bits at d: it lies before them, or behind them and before the ring comes round to them

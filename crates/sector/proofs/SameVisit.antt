@@ -5,22 +5,20 @@
 use mathlib.Core.Path.{_≡_, refl, sym, ap, ap₂, _∙_, subst}
 use mathlib.Core.Bool.{Bool, true, false}
 use mathlib.Core.List.{List, [], _∷_, _++_}
-use Prim.Native.Nat.{ℕ, zero, suc, _+_, _-_, _*_, _≤_, _<_}
+use Prim.Native.Nat.{ℕ, _+_, _-_, _≤_, _<_}
 use native.Mathlib.Omega.{arith}
 use native.Mathlib.Decide.{decLt}
 use lib.Dec.{eqb}
-use lib.ListN.{length, getD, take, drop, length-append}
+use lib.ListN.{length, getD, length-append}
 use lib.Seq.{take-at, getD-append-add}
 use Rattle.base.specs.Choice.{pick}
 use Rattle.base.specs.Bits.{bitIn}
-use Rattle.base.specs.Lists.{tab, xorOf}
+use Rattle.base.specs.Lists.{xorOf}
 use Rattle.base.proofs.Tests.{eqb-yes}
 use Rattle.base.proofs.Lists.{is-tab}
 use Rattle.gcr.specs.Symbols.{Decoded, Bytes, IllegalAt, symbol}
-use Rattle.gcr.specs.Groups.{encode}
-use Rattle.gcr.specs.Places.{symbolAt, decodeAt}
+use Rattle.gcr.specs.Places.{decodeAt}
 use Rattle.gcr.proofs.DecodeLaws.{byteAt}
-use Rattle.gcr.proofs.EncodeLaws.{nibble}
 use Rattle.blocks.proofs.RoundTrips.{placed, groups-back}
 use Rattle.track.specs.Blocks.{dataBytes}
 use Rattle.track.proofs.Meaning.{data-long, data-lt}
@@ -29,8 +27,8 @@ use Rattle.scan.specs.declared.SyncEnd.the-variants.{At, Nothing}
 use Rattle.scan.specs.declared.SectorRecord.{SectorRecord}
 use Rattle.scan.specs.Sync.{syncEnd}
 use Rattle.scan.specs.Visit.{DataFound, BadData, AnotherHeader, GoodData, OtherMarker, FalseData, HeaderFound, BadHeader, TrueHeader}
-use Rattle.scan.specs.Visit.{Visit, at, payloadIn, byData, headerMark, dataAt, bySync, dataFor, byHeader, visit}
-use Rattle.scan.proofs.VisitLaws.{Header, header→, header←, Data, payloadAt, data→, Good, good, stepOf, visit-yes}
+use Rattle.scan.specs.Visit.{at, payloadIn, byData, headerMark, dataAt, bySync, dataFor, byHeader, visit}
+use Rattle.scan.proofs.VisitLaws.{header→, header←, data→, Good, good, stepOf, visit-yes}
 use Rattle.scan.proofs.ScanLaws.{found-sync}
 use Rattle.scan.proofs.SameBits.{Agree, sync-same, sync-from, sync-at, decode-same, withData, header-same}
 use Rattle.sector.specs.Replacing.{dataBlock}

@@ -4,12 +4,12 @@
 use mathlib.Core.Path.{_≡_, refl, sym, ap, _∙_, subst}
 use mathlib.Core.Logic.{_≢_, _⊎_, inl, inr, ⊎-elim}
 use mathlib.Core.Bool.{Bool}
-use mathlib.Core.List.{List, [], _∷_}
-use Prim.Native.Nat.{ℕ, zero, suc, _+_, _-_, _*_, _≤_, _<_}
+use mathlib.Core.List.{List}
+use Prim.Native.Nat.{ℕ, zero, suc, _+_, _-_, _≤_, _<_}
 use native.Mathlib.Omega.{arith}
 use native.Mathlib.Decide.{decLt, ℕ-discrete}
 use Rattle.gcr.specs.Places.{decodeAt}
-use Rattle.track.proofs.Unrolled.{Slot, Track, Place, at-header, at-block, Ones10, Found, ten-ones}
+use Rattle.track.proofs.Unrolled.{Track, Place, at-header, at-block, Ones10, Found, ten-ones}
 use Rattle.scan.specs.declared.SyncEnd.{SyncEnd}
 use Rattle.scan.specs.declared.SyncEnd.the-variants.{At, Nothing}
 use Rattle.scan.specs.declared.SectorRecord.{SectorRecord}
@@ -23,7 +23,7 @@ use Rattle.scan.proofs.ScanLaws.{found-sync, next-found, next-step, stepNext, v
 use Rattle.scan.proofs.ScanLaws.{visits-end, visits-none, visits-turn, onStep, Every, Any}
 use Rattle.scan.proofs.NextLaws.{at-sync}
 use Rattle.scan.proofs.EachRecord.{any-every, each-good}
-use Rattle.sector.specs.ReadBack.{pastData, pastHeader, pastLook, Misses, OwnData, Own, In, Each}
+use Rattle.sector.specs.ReadBack.{pastData, pastHeader, pastLook, Misses, Own, In, Each}
 use Rattle.sector.proofs.SameVisit.{past-at}
 
 -- a visit that gives a record of the sector is its own
