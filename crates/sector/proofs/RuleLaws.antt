@@ -6,7 +6,7 @@
 use mathlib.Core.Path.{_≡_, refl, sym, ap, _∙_, subst}
 use mathlib.Core.Bool.{Bool, true, false}
 use mathlib.Core.List.{List, [], _∷_, _++_}
-use Prim.Native.Nat.{ℕ, zero, suc, _+_, _-_, _*_, _≤_, _<_}
+use Prim.Native.Nat.{ℕ, zero, suc, _+_, _-_, _≤_, _<_}
 use native.Mathlib.Omega.{arith}
 use lib.Dec.{eqb, ltb}
 use lib.ListN.{length, getD, take, drop, replicate, length-append, length-map, length-drop}
@@ -20,11 +20,11 @@ use Rattle.scan.proofs.ScanLaws.{Every, few-records}
 use Rattle.scan.proofs.EachRecord.{each-next}
 use Rattle.sector.specs.declared.Sector.{Sector}
 use Rattle.sector.specs.declared.Replaced.{Replaced}
-use Rattle.sector.specs.declared.Replaced.the-variants.{Written, Refused}
+use Rattle.sector.specs.declared.Replaced.the-variants.{Refused}
 use Rattle.sector.specs.declared.Copies.{Copies}
 use Rattle.sector.specs.Rules.{good, refused, recordsIn, recordsFor, unique, consistent, readBy}
 use Rattle.sector.specs.Replacing.{dataBlock, writtenAt, placesIn, replacedBy, answerOf}
-use Rattle.sector.specs.Copies.{firstPayload, allEqual, placesOf, copiesOf, copiesIn, uniqueOf, consistentOf, SmallPlaces}
+use Rattle.sector.specs.Copies.{firstPayload, allEqual, copiesOf, copiesIn, uniqueOf, consistentOf, SmallPlaces}
 use Rattle.sector.proofs.SectorLaws.{read-scanned}
 use Rattle.sector.proofs.CopiesLaws.{whole, few-for}
 
@@ -80,7 +80,7 @@ every-place n (r ∷ own) more t (suc i) h = every-place n own more (t .1) i (om
 all-near : (ring : List ℕ) (track : ℕ) → length ring ≤ 65535 → Every (λ r. r .place < 2000000) (recordsIn ring track)
 all-near ring track h =
     subst (Every (λ r. r .place < 2000000)) (whole ring track)
-    (each-next (bitAt ring) track (bits ring) (λ r. r .place < 2000000) (λ b r i. omega (arith, i .near)) 0)
+    (each-next (bitAt ring) track (bits ring) (λ r. r .place < 2000000) 0 (λ c r l i. omega (arith, i .near)))
 
 pub small-places : (ring : List ℕ) (track sector : ℕ) → IsRing ring → (found : Copies) → found ≡ copiesIn sector (recordsIn ring track)
     → SmallPlaces (found .count) (found .places)

@@ -1,5 +1,4 @@
-use mathlib.Core.Path.{_≡_, refl, sym, ap, _∙_}
-use Prim.Native.Nat.{ℕ, _+_, _-_, _*_, _≤_, _<_}
+use Prim.Native.Nat.{_-_, _*_}
 use native.Mathlib.Omega.{arith}
 use borrow.Author.Needs.{needs}
 use borrow.Author.Tests.{not-true, not-false}
@@ -9,11 +8,6 @@ use Rattle.scan.proofs.NextLaws.{NextIs, next-some, next-none}
 use Rattle.sector.proofs.CopiesLaws.{Searching, search-starts, search-ends, search-room, search-goes-on}
 use Rattle.sector.proofs.find_copies.Statement.{statement}
 use Rattle.sector.proofs.find_copies.Tie as tie
-use Rattle.sector.proofs.find_copies.Reads as reads
-use Rattle.sector.proofs.find_copies.Lts as lts
-use Rattle.scan.proofs.next_record.Reads as next-record-reads
-use Rattle.sector.proofs.no_copies.Reads as no-copies-reads
-use Rattle.sector.proofs.with_record.Reads as with-record-reads
 
 abbrev Inv-loop : tie.InvT-loop
 Inv-loop ring track sector end seen₀ bit₀ seen bit = Searching ring track sector seen bit
@@ -21,23 +15,18 @@ Inv-loop ring track sector end seen₀ bit₀ seen bit = Searching ring track se
 abbrev μ-loop : tie.MeasureT-loop
 μ-loop ring track sector end seen₀ bit₀ seen bit = 8 * length ring - bit
 
--- src/lib.rt:93:15
 mul-end : tie.Need-mul-end Inv-loop μ-loop
 mul-end c = search needs
 
--- src/lib.rt:94:9
 no-copies-requires : tie.Need-no-copies-requires Inv-loop μ-loop
 no-copies-requires c κs = search needs
 
--- src/lib.rt:96:5
 loop-holds : tie.Need-loop-holds Inv-loop μ-loop
 loop-holds c = let a = c .before .before .args in rw (c .no-copies .ensures) (search-starts (a .ring .now) (a .track) (a .sector))
 
--- src/lib.rt:97:13
 next-record-requires : tie.Need-next-record-requires Inv-loop μ-loop
 next-record-requires c κs = let p = c .before .before .before .pre in (p, omega (arith, p .small))
 
--- src/lib.rt:99:13
 returns : tie.Need-returns Inv-loop μ-loop
 returns c =
     let n = c .before .before in
@@ -57,11 +46,9 @@ is-next c =
     let n = e .before .before in
     next-some _ _ _ _ (n .next-record .result) (n .next-record .ensures .0) (not-false _ (e .if1 .left))
 
--- src/lib.rt:102:15
 add-bit : tie.Need-add-bit Inv-loop μ-loop
 add-bit c = omega (arith, c .before .before .before .before .next-record .ensures .1)
 
--- src/lib.rt:103:9
 with-record-requires : tie.Need-with-record-requires Inv-loop μ-loop
 with-record-requires c κs =
     let l = c .before .before .before .before .before in
@@ -69,11 +56,9 @@ with-record-requires c κs =
     let a = s .args in
     search-room (a .ring .now) (a .track) (a .sector) (l .loop .seen) (l .loop .bit) (l .loop .inv) (s .pre .small) _ (is-next c)
 
--- src/lib.rt:96:5
 loop-less : tie.Need-loop-less Inv-loop μ-loop
 loop-less c = let i = is-next (c .before) in omega (arith, i .below, i .far)
 
--- src/lib.rt:96:5
 loop-again : tie.Need-loop-again Inv-loop μ-loop
 loop-again c =
     let l = c .before .before .before .before .before .before in

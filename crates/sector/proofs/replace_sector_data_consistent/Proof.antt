@@ -1,4 +1,4 @@
-use mathlib.Core.Path.{_≡_, refl, sym, ap, _∙_}
+use mathlib.Core.Path.{_∙_}
 use native.Mathlib.Omega.{arith}
 use Rattle.ring.specs.Bit.{IsRing}
 use Rattle.sector.specs.Rules.{consistent}
@@ -7,20 +7,13 @@ use Rattle.sector.proofs.RuleLaws.{consistent-read, small-places, refus
 use borrow.Author.Needs.{needs}
 use Rattle.sector.proofs.replace_sector_data_consistent.Statement.{statement}
 use Rattle.sector.proofs.replace_sector_data_consistent.Tie as tie
-use Rattle.sector.proofs.replace_sector_data_consistent.Reads as reads
-use Rattle.sector.proofs.replace_sector_data_consistent.Lts as lts
-use Rattle.sector.proofs.consistent_of.Reads as consistent-of-reads
-use Rattle.sector.proofs.find_copies.Reads as find-copies-reads
-use Rattle.sector.proofs.rewrite.Reads as rewrite-reads
 
--- src/lib.rt:256:9
 returns : tie.Need-returns
 returns c =
     let a = c .before .before .args in
     refused-by consistent (a .ring .now) (a .track) (a .sector) (a .«data» .now) _
     (read-empty consistent (a .ring .now) (a .track) (a .sector) (c .if1 .taken))
 
--- src/lib.rt:259:9
 returns-2 : tie.Need-returns-2
 returns-2 c =
     let a = c .before .before .before .args in
@@ -30,15 +23,12 @@ returns-2 c =
 is-ring : (e : tie.Else2) → IsRing (e .before .before .before .args .ring .now)
 is-ring e = record { some = omega arith; small = e .if2 .left }
 
--- src/lib.rt:261:9
 find-copies-requires : tie.Need-find-copies-requires
 find-copies-requires c κs = search needs
 
--- src/lib.rt:262:9
 consistent-of-requires : tie.Need-consistent-of-requires
 consistent-of-requires c κs = search needs
 
--- src/lib.rt:263:5
 rewrite-requires : tie.Need-rewrite-requires
 rewrite-requires c κs =
     let f = c .before .before in
@@ -46,11 +36,9 @@ rewrite-requires c κs =
     let a = e .before .before .before .args in
     (is-ring e, small-places (a .ring .now) (a .track) (a .sector) (is-ring e) (f .find-copies .result) (f .find-copies .ensures))
 
--- src/lib.rt:246:1
 same-length : tie.Need-same-length
 same-length c = search needs
 
--- src/lib.rt:246:1
 returns-3 : tie.Need-returns-3
 returns-3 c =
     let w = c .before .before in

@@ -1,36 +1,27 @@
-use mathlib.Core.Path.{_≡_, refl, sym, ap, _∙_}
-use borrow.Author.Tests.{lt-ltb, le-ltb, eq-eqb, ne-eqb, not-true, not-false}
+use mathlib.Core.Path.{_∙_}
+use borrow.Author.Tests.{lt-ltb, le-ltb, eq-eqb, ne-eqb}
 use Rattle.sector.specs.Copies.{uniqueOf}
 use borrow.Author.Needs.{needs}
 use Rattle.sector.proofs.unique_of.Statement.{statement}
 use Rattle.sector.proofs.unique_of.Tie as tie
-use Rattle.sector.proofs.unique_of.Reads as reads
-use Rattle.sector.proofs.unique_of.Lts as lts
-use Rattle.sector.proofs.refused_sector.Reads as refused-sector-reads
 
--- src/lib.rt:122:9
 refused-sector-requires : tie.Need-refused-sector-requires
 refused-sector-requires c κs = search needs
 
--- src/lib.rt:122:9
 returns : tie.Need-returns
 unfolding uniqueOf
 returns c = c .refused-sector .ensures ∙ rw (lt-ltb _ _ (c .before .if1 .taken))
 
--- src/lib.rt:125:9
 refused-sector-requires-2 : tie.Need-refused-sector-requires-2
 refused-sector-requires-2 c κs = search needs
 
--- src/lib.rt:125:9
 returns-2 : tie.Need-returns-2
 unfolding uniqueOf
 returns-2 c = c .refused-sector2 .ensures ∙ rw (le-ltb _ _ (c .before .before .before .if1 .left), eq-eqb _ _ (c .before .if2 .taken))
 
--- src/lib.rt:128:9
 refused-sector-requires-3 : tie.Need-refused-sector-requires-3
 refused-sector-requires-3 c κs = search needs
 
--- src/lib.rt:128:9
 returns-3 : tie.Need-returns-3
 unfolding uniqueOf
 returns-3 c =
@@ -38,7 +29,6 @@ returns-3 c =
     c .refused-sector3 .ensures
     ∙ rw (le-ltb _ _ (i .before .before .if1 .left), ne-eqb _ _ (i .if2 .left), lt-ltb _ _ (c .before .if3 .taken))
 
--- src/lib.rt:118:1
 returns-4 : tie.Need-returns-4
 unfolding uniqueOf
 returns-4 c =

@@ -1,16 +1,12 @@
 use mathlib.Core.Path.{_≡_, refl, sym, ap, _∙_}
-use Prim.Native.Nat.{ℕ, _+_, _-_, _*_, _≤_, _<_}
+use Prim.Native.Nat.{_-_, _≤_}
 use native.Mathlib.Omega.{arith}
-use borrow.Author.Needs.{needs}
 use lib.ListN.{length, take, drop}
 use Rattle.ring.proofs.RingLaws.{ring-kept, length-writeBits}
 use Rattle.sector.specs.Replacing.{writtenAt}
 use Rattle.sector.proofs.WrittenLaws.{written-turn, written-all}
 use Rattle.sector.proofs.write_at.Statement.{statement}
 use Rattle.sector.proofs.write_at.Tie as tie
-use Rattle.sector.proofs.write_at.Reads as reads
-use Rattle.sector.proofs.write_at.Lts as lts
-use Rattle.ring.proofs.write_circular_bytes.Reads as write-circular-bytes-reads
 
 abbrev Inv-loop : tie.InvT-loop
 Inv-loop ring₀ block places count i₀ ring i =
@@ -20,19 +16,15 @@ Inv-loop ring₀ block places count i₀ ring i =
 abbrev μ-loop : tie.MeasureT-loop
 μ-loop ring₀ block places count i₀ ring i = count - i
 
--- src/lib.rt:195:5
 loop-holds : tie.Need-loop-holds Inv-loop μ-loop
 loop-holds c = (omega arith, refl, refl)
 
--- src/lib.rt:196:21
 mul-place : tie.Need-mul-place Inv-loop μ-loop
 mul-place c = omega arith
 
--- src/lib.rt:196:21
 shared-slice-read-place : tie.Need-shared-slice-read-place Inv-loop μ-loop
 shared-slice-read-place c = let s = c .before .before .before .before .before in omega (arith, s .pre .1 .fits)
 
--- src/lib.rt:197:9
 write-circular-bytes-requires : tie.Need-write-circular-bytes-requires Inv-loop μ-loop
 write-circular-bytes-requires c κs =
     let i = c .before .before in
@@ -42,15 +34,12 @@ write-circular-bytes-requires c κs =
       omega (arith, s .pre .1 .small (l .loop .i) (i .loop-test .taken)),
     )
 
--- src/lib.rt:198:9
 add-i : tie.Need-add-i Inv-loop μ-loop
 add-i c = omega arith
 
--- src/lib.rt:195:5
 loop-less : tie.Need-loop-less Inv-loop μ-loop
 loop-less c = omega arith
 
--- src/lib.rt:195:5
 loop-again : tie.Need-loop-again Inv-loop μ-loop
 loop-again c =
     let w = c .before .before in
@@ -66,11 +55,9 @@ loop-again c =
           ∙ l .loop .inv .2,
     )
 
--- src/lib.rt:188:1
 same-length : tie.Need-same-length Inv-loop μ-loop
 same-length c = c .before .loop .inv .1
 
--- src/lib.rt:188:1
 returns : tie.Need-returns Inv-loop μ-loop
 returns c =
     let l = c .before in
