@@ -5,8 +5,8 @@
 --     filled-more             a list filled with one value
 --     count-..                how many numbers of a list are a
 -- Assumes nothing.
-use Prim.Native.Nat.{ℕ, zero, suc, _+_, _-_, _*_, _≤_, _<_}
-use mathlib.Core.Path.{_≡_, refl, sym, ap, ap₂, _∙_, subst}
+use Prim.Native.Nat.{ℕ, zero, suc, _+_, _*_, _≤_, _<_}
+use mathlib.Core.Path.{_≡_, refl, sym, ap, ap₂, _∙_}
 use mathlib.Core.Logic.{_≢_}
 use mathlib.Core.Bool.{Bool, true, false}
 use mathlib.Core.List.{List, [], _∷_, _++_, append-nil}
@@ -25,7 +25,8 @@ use Rattle.base.proofs.Lists.{length-tab, getD-tab, is-tab, length-join
 use Rattle.base.proofs.InRow.{sets-more}
 
 -- a run of numbers after what is filled: w is filled, the rest is as in d
-pub put-many : (w d vs : List ℕ) (m : ℕ) → length w ≡ m → m + length vs ≤ length d → sets (w ++ drop m d) m vs ≡ (w ++ vs) ++ drop (m + length vs) d
+pub put-many : (w d vs : List ℕ) (m : ℕ) → length w ≡ m → m + length vs ≤ length d → sets (w ++ drop m d) m vs ≡ (w ++ vs) ++ drop
+    (m + length vs) d
 put-many w d vs m e h =
     sets-eq vs (w ++ drop m d) m (simp (length-append, length-drop) (omega arith))
     ∙ ap₂ (λ (a b : List ℕ). (a ++ vs) ++ b) (take-at w (drop m d) m e) rest
@@ -41,7 +42,8 @@ sets-left xs ys (v ∷ vs) i h =
     ∙ sets-left (set xs i v) ys vs (suc i) (omega (arith, length-set xs i v))
 
 -- a loop that stores vs from `at` on, one more
-pub sets-next : (l vs : List ℕ) (at i : ℕ) → i < length vs → set (sets l at (take i vs)) (at + i) (getD vs i 0) ≡ sets l at (take (i + 1) vs)
+pub sets-next : (l vs : List ℕ) (at i : ℕ) → i < length vs → set (sets l at (take i vs)) (at + i) (getD vs i 0) ≡ sets l at
+    (take (i + 1) vs)
 sets-next l vs at i h =
     sets-more (take i vs) (getD vs i 0 ∷ []) l at i (length-take-le i vs (omega arith))
     ∙ ap (sets l at) (sym (take-suc vs i 0 h) ∙ ap (λ (n : ℕ). take n vs) (sym (add-one i)))
@@ -78,11 +80,18 @@ module _ (k : ℕ) (f : ℕ → List ℕ) (sized : (j : ℕ) → length (f j) �
     where
       go : Dec (s ≡ n) → (s < n → sets (joined n f) (k * s) v ≡ joined n g) → sets (joined n f ++ f n) (k * s) v ≡ joined n g ++ g n
       go (no q) ih =
-          sets-left (joined n f) (f n) v (k * s) (omega (arith, off-mono f (λ m. k * m) (mul-zero k) step s n (omega arith), joined-long n, sized s))
+          sets-left (joined n f) (f n) v (k * s) (omega (
+            arith,
+            off-mono f (λ m. k * m) (mul-zero k) step s n (omega arith),
+            joined-long
+                n,
+            sized s,
+          ))
           ∙ ap₂ (λ (a b : List ℕ). a ++ b) (ih (omega arith)) (sym (others n (λ z. q (sym z))))
       go (yes q) ih =
           let at : k * s ≡ k * n = ap (λ (y : ℕ). k * y) q in
-          let end : length (joined n f ++ f n) ≡ k * s + length v = length-append (joined n f) (f n) ∙ omega (arith, joined-long n, sized n) in
+          let end : length (joined n f ++ f n) ≡ k * s + length v = length-append (joined n f) (f n) ∙ omega
+          (arith, joined-long n, sized n) in
           sets-eq v (joined n f ++ f n) (k * s) (omega arith)
           ∙ ap₂ (λ (a b : List ℕ). (a ++ v) ++ b) (take-at (joined n f) (f n) (k * s) (joined-long n ∙ sym at))
           (drop-of-length-le (joined n f ++ f n) {i = k * s + length v} (omega arith))
