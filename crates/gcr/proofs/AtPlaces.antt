@@ -44,3 +44,19 @@ group-in code i h bytes =
     let e : 8 * (5 * i) ≡ 40 * i = omega arith in
     ap decodeGroup (sym (bytes-there code (5 * i) 5 h bytes))
     ∙ group-at (bitIn code) (bit-lt code) (8 * (5 * i)) ∙ ap (λ (y : ℕ). decodeAt (bitIn code) y 4) e
+
+-- the same bits, at one place and at another, stand for the same
+module _ (x y : ℕ → ℕ) (p q n : ℕ) (same : (i : ℕ) → i < 10 * n → x (p + i) ≡ y (q + i)) where
+  bit-same : (k j : ℕ) → k < 2 * n → j < 5 → x (p + 5 * k + j) ≡ y (q + 5 * k + j)
+  bit-same k j h l =
+      let e : p + 5 * k + j ≡ p + (5 * k + j) = omega arith in
+      let f : q + (5 * k + j) ≡ q + 5 * k + j = omega arith in
+      ap x e ∙ same (5 * k + j) (omega arith) ∙ ap y f
+
+  symbol-same : (k : ℕ) → k < 2 * n → symbolAt x (p + 5 * k) ≡ symbolAt y (q + 5 * k)
+  symbol-same k h = λ i. same (5 * k) (omega arith) i * 16 + bit-same k 1 h (lit< tt) i * 8 + bit-same k 2 h (lit< tt) i * 4 + bit-same k
+      3 h (lit< tt) i * 2 + bit-same k 4 h (lit< tt) i
+
+  pub decode-same : decodeAt x p n ≡ decodeAt y q n
+  unfolding decodeAt
+  decode-same = ap fromSymbols (tab-same (2 * n) (λ k. symbolAt x (p + 5 * k)) (λ k. symbolAt y (q + 5 * k)) symbol-same)

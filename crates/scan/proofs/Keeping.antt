@@ -1,6 +1,6 @@
 -- A track read record by record: what a loop that keeps the first record of each sector leaves.
 -- Assumes nothing.
-use Prim.Native.Nat.{ℕ, zero, suc, _+_, _-_, _*_, _%_, _≤_, _<_}
+use Prim.Native.Nat.{ℕ, _+_, _*_, _%_, _≤_, _<_}
 use mathlib.Core.Path.{_≡_, refl, sym, ap, ap₂, _∙_, subst}
 use mathlib.Core.Logic.{_≢_, _⊎_, inl, inr}
 use mathlib.Core.Bool.{Bool, true, false}
@@ -8,19 +8,20 @@ use mathlib.Core.List.{List, [], _∷_, _++_}
 use native.Mathlib.Omega.{arith}
 use native.Mathlib.Decide.{ℕ-discrete}
 use lib.Dec.{eqb}
-use lib.ListN.{length, getD, set, drop, replicate, length-append, length-drop, length-replicate, length-set, List·getD-append}
-use lib.Seq.{sets, length-sets, set-append-left, drop-at}
+use lib.ListN.{length, getD, set, drop, replicate, length-append, length-drop, length-replicate, List·getD-append}
+use lib.Seq.{sets, set-append-left, drop-at}
 use Rattle.base.specs.Choice.{pick}
 use Rattle.base.specs.Lists.{tab, joined, countOf}
 use Rattle.base.proofs.Tests.{eqb-yes, eqb-no, pick-lt}
 use Rattle.base.proofs.Lists.{length-tab, getD-tab, tab-same}
-use Rattle.base.proofs.Stores.{sets-left, tab-put, joined-same, joined-long, joined-put, tab-filled, joined-filled, count-put, count-none, count-le}
+use Rattle.base.proofs.Stores.{sets-left, tab-put, joined-same, joined-long, joined-put, tab-filled, joined-filled, count-put, count-none}
+use Rattle.base.proofs.Stores.{count-le}
 use Rattle.geometry.specs.Zones.{sectorsOf}
 use Rattle.ring.specs.Bit.{bits, bitAt}
 use Rattle.scan.specs.declared.SectorRecord.{SectorRecord}
 use Rattle.scan.specs.Scan.{recordsFrom, records}
 use Rattle.scan.specs.Reading.{Reading, handedOut, missing, firstOf, readPayloads, readStatuses}
-use Rattle.scan.specs.Left.{Kept, ReadInto}
+use Rattle.scan.specs.Helpers.{Kept, ReadInto}
 use Rattle.scan.proofs.ScanLaws.{Every}
 use Rattle.scan.proofs.NextLaws.{NextIs}
 use Rattle.scan.proofs.ReadingLaws.{Handed, first-cases}
@@ -34,24 +35,26 @@ module _ (j : ℕ) (r : SectorRecord) where
   first-other [] n = ap (λ (b : Bool). pick b (handedOut (r .payload)) missing) (eqb-no (r .sector) j n)
   first-other (q ∷ l) n = ap (pick (eqb (q .sector) j) (handedOut (q .payload))) (first-other l n)
 
-  first-second : (l : List SectorRecord) → firstOf j l .status ≢ 2 → firstOf j (l ++ (r ∷ [])) ≡ firstOf j l
+  first-second : (l : List SectorRecord) → firstOf j l .status ≡ 1 → firstOf j (l ++ (r ∷ [])) ≡ firstOf j l
   unfolding firstOf
-  first-second [] n = absurd (n refl)
+  first-second [] n = absurd (omega arith)
   first-second (q ∷ l) n = go (eqb (q .sector) j) n (λ m. first-second l m)
     where
-      go : (b : Bool) → pick b (handedOut (q .payload)) (firstOf j l) .status ≢ 2 → (firstOf j l .status ≢ 2 → firstOf j (l ++ (r ∷ [])) ≡ firstOf j l)
+      go : (b : Bool) → pick b (handedOut (q .payload)) (firstOf j l) .status ≡ 1 → (firstOf j l .status ≡ 1 → firstOf j (l ++ (r ∷ []))
+          ≡ firstOf j l)
           → pick b (handedOut (q .payload)) (firstOf j (l ++ (r ∷ []))) ≡ pick b (handedOut (q .payload)) (firstOf j l)
       go true n ih = refl
       go false n ih = ih n
 
-  first-new : (l : List SectorRecord) → r .sector ≡ j → firstOf j l .status ≡ 2 → firstOf j (l ++ (r ∷ [])) ≡ handedOut (r .payload)
+  first-new : (l : List SectorRecord) → r .sector ≡ j → firstOf j l .status ≢ 1 → firstOf j (l ++ (r ∷ [])) ≡ handedOut (r .payload)
   unfolding firstOf
   first-new [] e n = ap (λ (b : Bool). pick b (handedOut (r .payload)) missing) (eqb-yes (r .sector) j e)
   first-new (q ∷ l) e n = go (eqb (q .sector) j) n (λ m. first-new l e m)
     where
-      go : (b : Bool) → pick b (handedOut (q .payload)) (firstOf j l) .status ≡ 2 → (firstOf j l .status ≡ 2 → firstOf j (l ++ (r ∷ [])) ≡ handedOut (r .payload))
+      go : (b : Bool) → pick b (handedOut (q .payload)) (firstOf j l) .status ≢ 1
+          → (firstOf j l .status ≢ 1 → firstOf j (l ++ (r ∷ [])) ≡ handedOut (r .payload))
           → pick b (handedOut (q .payload)) (firstOf j (l ++ (r ∷ []))) ≡ handedOut (r .payload)
-      go true n ih = absurd (omega arith)
+      go true n ih = absurd (n refl)
       go false n ih = ih n
 
 first-sized : (l : List SectorRecord) → Every Sized l → (j : ℕ) → length (firstOf j l .payload) ≡ 256
@@ -81,7 +84,8 @@ pub record Blank (track : ℕ) (payloads statuses payloads₁ statuses₁ : List
   pub twos : statuses₁ ≡ replicate (sectorsOf track) 2 ++ drop (sectorsOf track) statuses
 
 pub blank : (track k : ℕ) (payloads statuses payloads₁ statuses₁ : List ℕ) → k ≡ sectorsOf track
-    → payloads₁ ≡ replicate (256 * k) 0 ++ drop (256 * k) payloads → statuses₁ ≡ replicate k 2 ++ drop k statuses → Blank track payloads statuses payloads₁ statuses₁
+    → payloads₁ ≡ replicate (256 * k) 0 ++ drop (256 * k) payloads → statuses₁ ≡ replicate k 2 ++ drop k statuses → Blank track payloads
+    statuses payloads₁ statuses₁
 blank track k payloads statuses payloads₁ statuses₁ e p q =
     record {
       zeros = p ∙ ap (λ (y : ℕ). replicate (256 * y) 0 ++ drop (256 * y) payloads) e;
@@ -92,12 +96,14 @@ module _ {track : ℕ} {payloads statuses payloads₁ statuses₁ : List ℕ} (b
   rest-kept : drop (256 * sectorsOf track) payloads₁ ≡ drop (256 * sectorsOf track) payloads
   rest-kept =
       ap (drop (256 * sectorsOf track)) (b .zeros)
-      ∙ drop-at (replicate (256 * sectorsOf track) 0) (drop (256 * sectorsOf track) payloads) (256 * sectorsOf track) (length-replicate {A = ℕ} (256 * sectorsOf track) 0)
+      ∙ drop-at (replicate (256 * sectorsOf track) 0) (drop (256 * sectorsOf track) payloads) (256 * sectorsOf track)
+      (length-replicate {A = ℕ} (256 * sectorsOf track) 0)
 
   more-kept : drop (sectorsOf track) statuses₁ ≡ drop (sectorsOf track) statuses
   more-kept =
       ap (drop (sectorsOf track)) (b .twos)
-      ∙ drop-at (replicate (sectorsOf track) 2) (drop (sectorsOf track) statuses) (sectorsOf track) (length-replicate {A = ℕ} (sectorsOf track) 2)
+      ∙ drop-at (replicate (sectorsOf track) 2) (drop (sectorsOf track) statuses) (sectorsOf track)
+      (length-replicate {A = ℕ} (sectorsOf track) 2)
 
   pub keep-begins : (ring : List ℕ) (start : ℕ) → Keeping ring track start payloads₁ statuses₁ payloads₁ statuses₁ (start % bits ring) 0
   unfolding firstOf
@@ -111,7 +117,8 @@ module _ {track : ℕ} {payloads statuses payloads₁ statuses₁ : List ℕ} (b
       }
 
   -- what is read after blanking, said of what was lent
-  pub as-lent : (ring : List ℕ) (start n : ℕ) (ps ss : List ℕ) → ReadInto ring track start payloads₁ statuses₁ ps ss n → ReadInto ring track start payloads statuses ps ss n
+  pub as-lent : (ring : List ℕ) (start n : ℕ) (ps ss : List ℕ) → ReadInto ring track start payloads₁ statuses₁ ps ss n → ReadInto ring
+      track start payloads statuses ps ss n
   as-lent ring start n ps ss o =
       record {
         count = o .count;
@@ -120,8 +127,14 @@ module _ {track : ℕ} {payloads statuses payloads₁ statuses₁ : List ℕ} (b
       }
 
 -- a record counts once, or not
-pub counts : {r : SectorRecord} {payloads statuses payloads₁ statuses₁ : List ℕ} {k : ℕ} → Kept r payloads statuses payloads₁ statuses₁ k → k < 2
-counts {r} {payloads} {statuses} t = omega (arith, t .count, pick-lt (eqb (getD statuses (r .sector) 0) 2) 1 0 2 (omega arith) (omega arith))
+pub counts : {r : SectorRecord} {payloads statuses payloads₁ statuses₁ : List ℕ} {k : ℕ} → Kept r payloads statuses payloads₁ statuses₁ k
+    → k < 2
+counts {r} {payloads} {statuses} t = omega (
+  arith,
+  t .count,
+  pick-lt (eqb (getD statuses (r .sector) 0) 1) 0 1 2 (omega arith)
+      (omega arith),
+)
 
 module _ {ring : List ℕ} {track start : ℕ} {payloads₀ statuses₀ payloads statuses : List ℕ} {bit n : ℕ}
     (i : Keeping ring track start payloads₀ statuses₀ payloads statuses bit n) where
@@ -143,7 +156,13 @@ module _ {ring : List ℕ} {track start : ℕ} {payloads₀ statuses₀ payloads
       ∙ omega (arith, length-tab (sectorsOf track) (statusBy (i .done)), length-drop (sectorsOf track) statuses₀)
 
   pub few-found : n ≤ sectorsOf track
-  few-found = omega (arith, i .count, count-le 1 (tab (sectorsOf track) (statusBy (i .done))), length-tab (sectorsOf track) (statusBy (i .done)))
+  few-found = omega (
+    arith,
+    i .count,
+    count-le 1 (tab (sectorsOf track) (statusBy (i .done))),
+    length-tab (sectorsOf track)
+        (statusBy (i .done)),
+  )
 
   module _ (r : SectorRecord) (next : NextIs (bitAt ring) track (endOf ring start) bit r) where
     status-at : getD statuses (r .sector) 0 ≡ statusBy (i .done) (r .sector)
@@ -154,11 +173,14 @@ module _ {ring : List ℕ} {track start : ℕ} {payloads₀ statuses₀ payloads
         ∙ getD-tab (sectorsOf track) (statusBy (i .done)) (r .sector) (next .sector)
 
     -- the first record of its sector
-    found-first : getD statuses (r .sector) 0 ≡ 2
-        → Keeping ring track start payloads₀ statuses₀ (sets payloads (256 * r .sector) (r .payload)) (set statuses (r .sector) 1) (r .place + 2600) (n + 1)
+    found-first : getD statuses (r .sector) 0 ≢ 1
+        → Keeping ring track start payloads₀ statuses₀ (sets payloads (256 * r .sector) (r .payload)) (set statuses (r .sector) 1)
+        (r .place + 2600) (n + 1)
     found-first e =
-        let new : firstOf (r .sector) (i .done ++ (r ∷ [])) ≡ handedOut (r .payload) = first-new (r .sector) r (i .done) refl (sym status-at ∙ e) in
-        let others : (j : ℕ) → j ≢ r .sector → firstOf j (i .done ++ (r ∷ [])) ≡ firstOf j (i .done) = λ j d. first-other j r (i .done) (λ z. d (sym z)) in
+        let new : firstOf (r .sector) (i .done ++ (r ∷ [])) ≡ handedOut (r .payload) = first-new (r .sector) r (i .done) refl
+        (λ z. e (status-at ∙ z)) in
+        let others : (j : ℕ) → j ≢ r .sector → firstOf j (i .done ++ (r ∷ [])) ≡ firstOf j (i .done) = λ j d. first-other j r (i .done)
+        (λ z. d (sym z)) in
         let put : set (tab (sectorsOf track) (statusBy (i .done))) (r .sector) 1 ≡ tab (sectorsOf track) (statusBy (i .done ++ (r ∷ [])))
         = tab-put (sectorsOf track) (r .sector) 1 (statusBy (i .done)) (statusBy (i .done ++ (r ∷ []))) (next .sector)
         (ap (λ (y : Reading). y .status) new) (λ j d. ap (λ (y : Reading). y .status) (others j d)) in
@@ -166,60 +188,70 @@ module _ {ring : List ℕ} {track start : ℕ} {payloads₀ statuses₀ payloads
           done = i .done ++ (r ∷ []);
           passed = passes (i .passed) r next;
           laid = ap (λ (l : List ℕ). sets l (256 * r .sector) (r .payload)) (i .laid)
-              ∙ sets-left (joined (sectorsOf track) (payloadBy (i .done))) (drop (256 * sectorsOf track) payloads₀) (r .payload) (256 * r .sector)
+              ∙ sets-left (joined (sectorsOf track) (payloadBy (i .done))) (drop (256 * sectorsOf track) payloads₀) (r .payload)
+              (256 * r .sector)
               (omega (arith, long, next .sector, next .long))
               ∙ ap (λ (l : List ℕ). l ++ drop (256 * sectorsOf track) payloads₀)
-              (joined-put 256 (payloadBy (i .done)) sized (sectorsOf track) (r .sector) (r .payload) (payloadBy (i .done ++ (r ∷ []))) (next .sector) (next .long)
+              (joined-put 256 (payloadBy (i .done)) sized (sectorsOf track) (r .sector) (r .payload) (payloadBy (i .done ++ (r ∷ [])))
+              (next .sector) (next .long)
               (ap (λ (y : Reading). y .payload) new) (λ j d. ap (λ (y : Reading). y .payload) (others j d)));
           told = ap (λ (l : List ℕ). set l (r .sector) 1) (i .told)
               ∙ set-append-left (tab (sectorsOf track) (statusBy (i .done))) (drop (sectorsOf track) statuses₀) (r .sector) 1
               (omega (arith, length-tab (sectorsOf track) (statusBy (i .done)), next .sector))
               ∙ ap (λ (l : List ℕ). l ++ drop (sectorsOf track) statuses₀) put;
           count = ap (λ (y : ℕ). y + 1) (i .count)
-              ∙ sym (count-put 1 (tab (sectorsOf track) (statusBy (i .done))) (r .sector) (omega (arith, length-tab (sectorsOf track) (statusBy (i .done)), next .sector))
-              (λ z. omega (arith, getD-tab (sectorsOf track) (statusBy (i .done)) (r .sector) (next .sector), status-at)))
+              ∙ sym (count-put 1 (tab (sectorsOf track) (statusBy (i .done))) (r .sector)
+              (omega (arith, length-tab (sectorsOf track) (statusBy (i .done)), next .sector))
+              (λ z. e (status-at ∙ sym (getD-tab (sectorsOf track) (statusBy (i .done)) (r .sector) (next .sector)) ∙ z)))
               ∙ ap (countOf 1) put;
         }
 
     -- a further record of its sector
-    found-again : getD statuses (r .sector) 0 ≢ 2 → Keeping ring track start payloads₀ statuses₀ payloads statuses (r .place + 2600) (n + 0)
+    found-again : getD statuses (r .sector) 0 ≡ 1 → Keeping ring track start payloads₀ statuses₀ payloads statuses (r .place + 2600) (n + 0)
     found-again d =
         let same : (j : ℕ) → firstOf j (i .done) ≡ firstOf j (i .done ++ (r ∷ [])) = λ j. sym (go j (ℕ-discrete (r .sector) j)) in
         let tabs : tab (sectorsOf track) (statusBy (i .done)) ≡ tab (sectorsOf track) (statusBy (i .done ++ (r ∷ [])))
-        = tab-same (sectorsOf track) (statusBy (i .done)) (statusBy (i .done ++ (r ∷ []))) (λ j l. ap (λ (y : Reading). y .status) (same j)) in
+        = tab-same (sectorsOf track) (statusBy (i .done)) (statusBy (i .done ++ (r ∷ []))) (λ j l. ap (λ (y : Reading). y .status)
+        (same j)) in
         record {
           done = i .done ++ (r ∷ []);
           passed = passes (i .passed) r next;
           laid = i .laid ∙ ap (λ (l : List ℕ). l ++ drop (256 * sectorsOf track) payloads₀)
-              (joined-same (sectorsOf track) (payloadBy (i .done)) (payloadBy (i .done ++ (r ∷ []))) (λ j l. ap (λ (y : Reading). y .payload) (same j)));
+              (joined-same (sectorsOf track) (payloadBy (i .done)) (payloadBy (i .done ++ (r ∷ [])))
+              (λ j l. ap (λ (y : Reading). y .payload) (same j)));
           told = i .told ∙ ap (λ (l : List ℕ). l ++ drop (sectorsOf track) statuses₀) tabs;
           count = (let e : n + 0 ≡ n = omega arith in e) ∙ i .count ∙ ap (countOf 1) tabs;
         }
       where
         go : (j : ℕ) → Dec (r .sector ≡ j) → firstOf j (i .done ++ (r ∷ [])) ≡ firstOf j (i .done)
-        go j (yes e) = first-second j r (i .done) (λ z. d (status-at ∙ ap (statusBy (i .done)) e ∙ z))
+        go j (yes e) = first-second j r (i .done) (ap (statusBy (i .done)) (sym e) ∙ sym status-at ∙ d)
         go j (no e) = first-other j r (i .done) e
 
     -- by what `keep_first` leaves
     pub keeps : (payloads₁ statuses₁ : List ℕ) (k : ℕ) → Kept r payloads statuses payloads₁ statuses₁ k
         → Keeping ring track start payloads₀ statuses₀ payloads₁ statuses₁ (r .place + 2600) (n + k)
-    keeps payloads₁ statuses₁ k t = go (ℕ-discrete (getD statuses (r .sector) 0) 2)
+    keeps payloads₁ statuses₁ k t = go (ℕ-discrete (getD statuses (r .sector) 0) 1)
       where
         Out : Bool → Type 0
-        Out b = Keeping ring track start payloads₀ statuses₀ (pick b (sets payloads (256 * r .sector) (r .payload)) payloads) (pick b (set statuses (r .sector) 1) statuses) (r .place + 2600) (n + pick b 1 0)
+        Out b = Keeping ring track start payloads₀ statuses₀ (pick b payloads (sets payloads (256 * r .sector) (r .payload)))
+            (pick b statuses (set statuses (r .sector) 1)) (r .place + 2600) (n + pick b 0 1)
 
-        home : Out (eqb (getD statuses (r .sector) 0) 2) → Keeping ring track start payloads₀ statuses₀ payloads₁ statuses₁ (r .place + 2600) (n + k)
+        home : Out (eqb (getD statuses (r .sector) 0) 1) → Keeping ring track start payloads₀ statuses₀ payloads₁ statuses₁
+            (r .place + 2600) (n + k)
         home o = rw (t .count, t .laid, t .told) o
 
-        go : Dec (getD statuses (r .sector) 0 ≡ 2) → Keeping ring track start payloads₀ statuses₀ payloads₁ statuses₁ (r .place + 2600) (n + k)
-        go (yes e) = home (subst Out (sym (eqb-yes (getD statuses (r .sector) 0) 2 e)) (found-first e))
-        go (no e) = home (subst Out (sym (eqb-no (getD statuses (r .sector) 0) 2 e)) (found-again e))
+        go : Dec (getD statuses (r .sector) 0 ≡ 1) → Keeping ring track start payloads₀ statuses₀ payloads₁ statuses₁ (r .place + 2600)
+            (n + k)
+        go (yes e) = home (subst Out (sym (eqb-yes (getD statuses (r .sector) 0) 1 e)) (found-again e))
+        go (no e) = home (subst Out (sym (eqb-no (getD statuses (r .sector) 0) 1 e)) (found-first e))
 
-  pub keep-ends : recordsFrom (bitAt ring) track (endOf ring start) bit ≡ [] → ReadInto ring track start payloads₀ statuses₀ payloads statuses n
+  pub keep-ends : recordsFrom (bitAt ring) track (endOf ring start) bit ≡ [] → ReadInto ring track start payloads₀ statuses₀ payloads
+      statuses n
   keep-ends e =
       let q : i .done ≡ records ring track start = all-passed (i .passed) e in
       record {
         count = i .count ∙ ap (λ (rs : List SectorRecord). countOf 1 (tab (sectorsOf track) (statusBy rs))) q;
-        laid = i .laid ∙ ap (λ (rs : List SectorRecord). joined (sectorsOf track) (payloadBy rs) ++ drop (256 * sectorsOf track) payloads₀) q;
+        laid = i .laid ∙ ap (λ (rs : List SectorRecord). joined (sectorsOf track) (payloadBy rs) ++ drop (256 * sectorsOf track)
+            payloads₀) q;
         told = i .told ∙ ap (λ (rs : List SectorRecord). tab (sectorsOf track) (statusBy rs) ++ drop (sectorsOf track) statuses₀) q;
       }

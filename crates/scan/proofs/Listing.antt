@@ -1,6 +1,6 @@
 -- A scan whose records are laid out in rows: what a loop that has passed n of them leaves.
 -- Assumes nothing.
-use Prim.Native.Nat.{ℕ, zero, suc, _+_, _-_, _*_, _%_, _≤_, _<_}
+use Prim.Native.Nat.{ℕ, _+_, _*_, _%_, _≤_, _<_}
 use mathlib.Core.Path.{_≡_, refl, sym, ap, ap₂, _∙_, subst}
 use mathlib.Core.List.{List, [], _∷_, _++_, append-assoc, append-nil}
 use native.Mathlib.Omega.{arith}
@@ -9,11 +9,10 @@ use lib.Seq.{sets}
 use Rattle.base.proofs.Stores.{put-many}
 use Rattle.ring.specs.Bit.{bits, bitAt}
 use Rattle.scan.specs.declared.SectorRecord.{SectorRecord}
-use Rattle.scan.specs.declared.Scanned.{Scanned}
 use Rattle.scan.specs.declared.Scanned.the-variants.{Records}
 use Rattle.scan.specs.Scan.{recordsFrom, records}
 use Rattle.scan.specs.Answers.{flat, payloadsOf}
-use Rattle.scan.specs.Left.{Listed}
+use Rattle.scan.specs.Helpers.{Listed}
 use Rattle.scan.proofs.ScanLaws.{Every}
 use Rattle.scan.proofs.NextLaws.{NextIs, few-left}
 use Rattle.scan.proofs.Passing.{endOf, Sized, Passing, sets-out, passes, before-195, all-passed}
@@ -37,7 +36,8 @@ length-payloads (r ∷ rs) t = length-append (r .payload) (payloadsOf rs) ∙ om
 payloads-snoc : (rs : List SectorRecord) (r : SectorRecord) → payloadsOf (rs ++ (r ∷ [])) ≡ payloadsOf rs ++ r .payload
 unfolding payloadsOf
 payloads-snoc [] r = append-nil (r .payload)
-payloads-snoc (y ∷ rs) r = ap (λ (l : List ℕ). y .payload ++ l) (payloads-snoc rs r) ∙ sym (append-assoc (y .payload) (payloadsOf rs) (r .payload))
+payloads-snoc (y ∷ rs) r = ap (λ (l : List ℕ). y .payload ++ l) (payloads-snoc rs r) ∙ sym (append-assoc (y .payload) (payloadsOf rs)
+    (r .payload))
 
 -- ---- n rows are laid out
 pub record Listing (ring : List ℕ) (track start : ℕ) (rows₀ payloads₀ rows payloads : List ℕ) (bit n : ℕ) : Type 0 where
@@ -47,11 +47,20 @@ pub record Listing (ring : List ℕ) (track start : ℕ) (rows₀ payloads₀ ro
   pub laid : rows ≡ flat (done) ++ drop (2 * n) rows₀
   pub packed : payloads ≡ payloadsOf (done) ++ drop (256 * n) payloads₀
 
-pub list-begins : (ring : List ℕ) (track start : ℕ) (rows payloads : List ℕ) → Listing ring track start rows payloads rows payloads (start % bits ring) 0
+pub list-begins : (ring : List ℕ) (track start : ℕ) (rows payloads : List ℕ) → Listing ring track start rows payloads rows payloads
+    (start % bits ring) 0
 unfolding flat payloadsOf
-list-begins ring track start rows payloads = record { done = []; passed = sets-out ring track start; count = refl; laid = refl; packed = refl }
+list-begins ring track start rows payloads = record {
+  done = [];
+  passed = sets-out ring track start;
+  count = refl;
+  laid = refl;
+  packed =
+      refl;
+}
 
-module _ {ring : List ℕ} {track start : ℕ} {rows₀ payloads₀ rows payloads : List ℕ} {bit n : ℕ} (i : Listing ring track start rows₀ payloads₀ rows payloads bit n) where
+module _ {ring : List ℕ} {track start : ℕ} {rows₀ payloads₀ rows payloads : List ℕ} {bit n : ℕ} (i : Listing ring track start rows₀
+    payloads₀ rows payloads bit n) where
   rows-long : length (flat (i .done)) ≡ 2 * n
   rows-long = length-flat (i .done) ∙ ap (λ (y : ℕ). 2 * y) (sym (i .count))
 
@@ -63,7 +72,12 @@ module _ {ring : List ℕ} {track start : ℕ} {rows₀ payloads₀ rows payload
 
   -- the lists keep their lengths
   pub rows-kept : 2 * n ≤ length rows₀ → length rows ≡ length rows₀
-  rows-kept h = ap length (i .laid) ∙ length-append (flat (i .done)) (drop (2 * n) rows₀) ∙ omega (arith, rows-long, length-drop (2 * n) rows₀)
+  rows-kept h = ap length (i .laid) ∙ length-append (flat (i .done)) (drop (2 * n) rows₀) ∙ omega (
+    arith,
+    rows-long,
+    length-drop (2 * n)
+        rows₀,
+  )
 
   pub payloads-kept : 256 * n ≤ length payloads₀ → length payloads ≡ length payloads₀
   payloads-kept h =
@@ -76,7 +90,8 @@ module _ {ring : List ℕ} {track start : ℕ} {rows₀ payloads₀ rows payload
     one-more = omega (arith, before-195 (i .passed) small r next, i .count)
 
     pub lists : 390 ≤ length rows₀ → 49920 ≤ length payloads₀
-        → Listing ring track start rows₀ payloads₀ (sets rows (2 * n) (r .sector ∷ r .place ∷ [])) (sets payloads (256 * n) (r .payload)) (r .place + 2600) (n + 1)
+        → Listing ring track start rows₀ payloads₀ (sets rows (2 * n) (r .sector ∷ r .place ∷ [])) (sets payloads (256 * n) (r .payload))
+        (r .place + 2600) (n + 1)
     lists h k =
         let few : n < 195 = one-more in
         let e : 256 * n + length (r .payload) ≡ 256 * (n + 1) = omega (arith, next .long) in
@@ -93,7 +108,8 @@ module _ {ring : List ℕ} {track start : ℕ} {rows₀ payloads₀ rows payload
               ∙ ap₂ (λ (l : List ℕ) (y : ℕ). l ++ drop y payloads₀) (sym (payloads-snoc (i .done) r)) e;
         }
 
-  pub list-ends : recordsFrom (bitAt ring) track (endOf ring start) bit ≡ [] → Listed (records ring track start) rows₀ payloads₀ rows payloads (Records n)
+  pub list-ends : recordsFrom (bitAt ring) track (endOf ring start) bit ≡ [] → Listed (records ring track start) rows₀ payloads₀ rows
+      payloads (Records n)
   list-ends e =
       subst (λ (rs : List SectorRecord). Listed rs rows₀ payloads₀ rows payloads (Records n)) (all-passed (i .passed) e) (record {
         count = ap Records (i .count);

@@ -1,6 +1,6 @@
 -- The ways round the loop that looks for the next record, by what the search and the decoders said.
 -- Assumes nothing.
-use mathlib.Core.Path.{_≡_, refl, sym, ap, ap₂, _∙_, subst}
+use mathlib.Core.Path.{_≡_, refl, sym, ap, ap₂, _∙_}
 use mathlib.Core.List.{List, [], _∷_}
 use Prim.Native.Nat.{ℕ, _+_, _-_, _<_}
 use native.Mathlib.Omega.{arith}
@@ -12,12 +12,10 @@ use Rattle.gcr.specs.Symbols.{Decoded, Bytes, IllegalAt}
 use Rattle.gcr.specs.Places.{decodeAt}
 use Rattle.scan.specs.declared.SyncEnd.{SyncEnd}
 use Rattle.scan.specs.declared.SyncEnd.the-variants.{At, Nothing}
-use Rattle.scan.specs.declared.HeaderAt.{HeaderAt}
 use Rattle.scan.specs.declared.HeaderAt.the-variants.{Sector, No}
 use Rattle.scan.specs.declared.DataAt.{DataAt}
 use Rattle.scan.specs.declared.DataAt.the-variants.{Good, Another, Bad}
 use Rattle.scan.specs.declared.DataBlock.{DataBlock}
-use Rattle.scan.specs.declared.SectorRecord.{SectorRecord}
 use Rattle.scan.specs.Sync.{syncEnd}
 use Rattle.scan.specs.Visit.{DataFound, BadData, AnotherHeader, GoodData, HeaderFound, BadHeader, TrueHeader}
 use Rattle.scan.specs.Visit.{FalseData, OtherMarker, at, payloadIn, byData, headerMark, byHeader, dataAt, bySync, dataFor, visit}
@@ -50,7 +48,8 @@ data-placed : (x : ℕ → ℕ) (d : ℕ) → Placed d (dataAt x d)
 unfolding dataAt
 data-placed x d = go (headerMark (decodeAt x d 4))
   where
-    tests : (b : List ℕ) (t u : Bool) → Placed d (pick t (pick u (GoodData d (payloadIn b)) (BadData (FalseData d))) (BadData (OtherMarker d)))
+    tests : (b : List ℕ) (t u : Bool) → Placed d (pick t (pick u (GoodData d (payloadIn b)) (BadData (FalseData d)))
+        (BadData (OtherMarker d)))
     tests b true true = refl
     tests b true false = tt
     tests b false u = tt
@@ -68,11 +67,13 @@ false-header : (h : ℕ) (f : HeaderFound) → headerAnswer f ≡ No → stepHea
 false-header h (BadHeader fault) e = refl
 false-header h (TrueHeader s i j f) e = absurd (let z : _≡_ {A = ℕ} 0 1 = cc in omega arith)
 
-true-header : (x : ℕ → ℕ) (track h s : ℕ) → headerAnswer (visit x track h .found) ≡ Sector s → stepOf (visit x track h) ≡ stepData h s (dataFor x h)
+true-header : (x : ℕ → ℕ) (track h s : ℕ) → headerAnswer (visit x track h .found) ≡ Sector s → stepOf (visit x track h) ≡ stepData h s
+    (dataFor x h)
 unfolding visit
 true-header x track h s e = by (byHeader track (dataFor x h) (decodeAt x h 8)) refl e
   where
-    by : (o : HeaderFound) → byHeader track (dataFor x h) (decodeAt x h 8) ≡ o → headerAnswer o ≡ Sector s → stepHeader h o ≡ stepData h s (dataFor x h)
+    by : (o : HeaderFound) → byHeader track (dataFor x h) (decodeAt x h 8) ≡ o → headerAnswer o ≡ Sector s → stepHeader h o ≡ stepData h
+        s (dataFor x h)
     by (BadHeader fault) w e = absurd (let z : _≡_ {A = ℕ} 0 1 = cc in omega arith)
     by (TrueHeader s′ i j f) w e = let q : s′ ≡ s = cc in ap₂ (stepData h) q (header→ x track h s′ i j f (dataFor x h) w .2)
 
@@ -87,7 +88,8 @@ module _ (h s : ℕ) (o : DataBlock) where
   other-data d (AnotherHeader a) w e v = ap (λ (y : ℕ). skip (y + 1)) w
   other-data d (GoodData a p) w e v = absurd (another-good (sym (said e v)))
 
-  good-data : (d : ℕ) (f : DataFound) → Placed d f → o ≡ dataAnswer f → o .verdict ≡ Good → stepData h s f ≡ good (record { sector = s; place = d; payload = o .payload })
+  good-data : (d : ℕ) (f : DataFound) → Placed d f → o ≡ dataAnswer f → o .verdict ≡ Good → stepData h s f ≡ good
+      (record { sector = s; place = d; payload = o .payload })
   good-data d (BadData fault) w e v = absurd (bad-good (said e v))
   good-data d (AnotherHeader a) w e v = absurd (another-good (said e v))
   good-data d (GoodData a p) w e v =
@@ -121,4 +123,5 @@ module _ (x : ℕ → ℕ) (track end b : ℕ) (l : b < end) where
 
         pub good-block : o .verdict ≡ Good
             → recordsFrom x track end b ≡ record { sector = s; place = d; payload = o .payload } ∷ recordsFrom x track end (d + 2600)
-        good-block v = goes (good (record { sector = s; place = d; payload = o .payload })) (at-data ∙ good-data h s o d (dataAt x d) (data-placed x d) g v)
+        good-block v = goes (good (record { sector = s; place = d; payload = o .payload })) (at-data ∙ good-data h s o d (dataAt x d)
+            (data-placed x d) g v)

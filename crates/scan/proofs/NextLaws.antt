@@ -4,24 +4,25 @@
 --     few-left                a caller that counts: at most 195 in all
 -- Assumes nothing.
 use Prim.Native.Nat.{ℕ, zero, suc, _+_, _-_, _*_, _%_, _≤_, _<_}
-use mathlib.Core.Path.{_≡_, refl, sym, ap, ap₂, _∙_, subst}
-use mathlib.Core.Bool.{Bool, true, false}
+use mathlib.Core.Path.{_≡_, refl, sym, ap, _∙_, subst}
+use mathlib.Core.Bool.{true, false}
 use mathlib.Core.List.{List, [], _∷_, _++_}
 use native.Mathlib.Omega.{arith}
-use lib.ListN.{length, getD, replicate, length-append}
+use lib.ListN.{length, getD, length-append}
 use Rattle.base.proofs.Lists.{length-tab, getD-tab}
 use Rattle.geometry.specs.Zones.{sectorsOf}
-use Rattle.gcr.proofs.DecodeLaws.{nibAt, byteAt}
+use Rattle.gcr.proofs.DecodeLaws.{byteAt}
 use Rattle.ring.specs.Bit.{bits, bitAt}
 use Rattle.scan.specs.declared.SyncEnd.{SyncEnd}
 use Rattle.scan.specs.declared.SyncEnd.the-variants.{At, Nothing}
 use Rattle.scan.specs.declared.SectorRecord.{SectorRecord}
 use Rattle.scan.specs.declared.NextRecord.{NextRecord}
 use Rattle.scan.specs.Visit.{visit}
-use Rattle.scan.specs.Scan.{nextSync, visits, recordsOf, recordsFrom, records}
+use Rattle.scan.specs.Scan.{nextSync, recordsOf, recordsFrom, records}
 use Rattle.scan.specs.Answers.{nextOf}
-use Rattle.scan.proofs.VisitLaws.{Step, skip, good, stepHeader, stepOf, Good, payloadAt, visit-good}
-use Rattle.scan.proofs.ScanLaws.{found-sync, next-found, visits-end, visits-none, visits-turn, onStep, one-step, skip-on, good-on, few-records}
+use Rattle.scan.proofs.VisitLaws.{Step, skip, good, stepHeader, stepOf, Good, visit-good}
+use Rattle.scan.proofs.ScanLaws.{found-sync, next-found, visits-end, visits-none, visits-turn, onStep, one-step, skip-on, good-on}
+use Rattle.scan.proofs.ScanLaws.{few-records}
 
 -- what a record that a scan finds at or after scan bit b is like, and the records after it
 pub record NextIs (x : ℕ → ℕ) (track end b : ℕ) (r : SectorRecord) : Type 0 where
@@ -50,7 +51,8 @@ module _ (x : ℕ → ℕ) (track end b : ℕ) where
   -- a turn
   pub at-sync : (h : ℕ) → nextSync x end b ≡ At h → recordsFrom x track end b ≡ onStep (stepOf (visit x track h)) (recordsFrom x track end)
   unfolding recordsOf
-  at-sync h w = ap recordsOf (visits-turn x track end b h w) ∙ one-step (visit x track h .place) (visit x track h .found) (recordsFrom x track end)
+  at-sync h w = ap recordsOf (visits-turn x track end b h w) ∙ one-step (visit x track h .place) (visit x track h .found)
+      (recordsFrom x track end)
 
   pub is-next : (h : ℕ) (r : SectorRecord) → nextSync x end b ≡ At h → stepOf (visit x track h) ≡ good r → NextIs x track end b r
   is-next h r w g =
@@ -59,7 +61,13 @@ module _ (x : ℕ → ℕ) (track end b : ℕ) where
         left = at-sync h w ∙ ap (λ (s : Step). onStep s (recordsFrom x track end)) g;
         below = next-found x end b h w .0;
         far = omega (arith, next-found x end b h w .1 .1, good-on x track h r g);
-        near = omega (arith, next-found x end b h w .0, next-found x end b h w .1 .2, found-sync x (h + 80) 768 (r .place) (v .searched) .2);
+        near = omega (
+          arith,
+          next-found x end b h w .0,
+          next-found x end b h w .1 .2,
+          found-sync x (h + 80) 768 (r .place)
+              (v .searched) .2,
+        );
         sector = subst (λ (y : ℕ). y < sectorsOf track) (sym (v .sector)) (v .header .below);
         long = ap length (v .payload) ∙ length-tab 256 (λ i. byteAt x (r .place) (suc i));
         bytes = λ i l. subst (λ (y : ℕ). y < 256)
@@ -73,7 +81,8 @@ none-some e = let z : _≡_ {A = ℕ} 0 1 = cc in omega arith
 
 module _ (x : ℕ → ℕ) (track end : ℕ) where
   -- what holds of the next record after a skipped turn holds before it
-  earlier : (b m : ℕ) (r : SectorRecord) → b < m → b < end → recordsFrom x track end b ≡ recordsFrom x track end m → NextIs x track end m r → NextIs x track end b r
+  earlier : (b m : ℕ) (r : SectorRecord) → b < m → b < end → recordsFrom x track end b ≡ recordsFrom x track end m → NextIs x track end m
+      r → NextIs x track end b r
   earlier b m r l k e i =
       record {
         left = e ∙ i .left;
@@ -85,7 +94,8 @@ module _ (x : ℕ → ℕ) (track end : ℕ) where
         bytes = i .bytes;
       }
 
-  head-in : (n b : ℕ) → end ≤ n + b → (r : SectorRecord) (rs : List SectorRecord) → recordsFrom x track end b ≡ r ∷ rs → NextIs x track end b r
+  head-in : (n b : ℕ) → end ≤ n + b → (r : SectorRecord) (rs : List SectorRecord) → recordsFrom x track end b ≡ r ∷ rs → NextIs x track
+      end b r
   head-in zero b l r rs e = absurd (none-some (sym (over x track end b (omega arith)) ∙ e))
   head-in (suc n) b l r rs e = by (nextSync x end b) refl (λ m k q. head-in n m k r rs q)
     where
@@ -94,7 +104,8 @@ module _ (x : ℕ → ℕ) (track end : ℕ) where
 
       step : (h : ℕ) → nextSync x end b ≡ At h → (v : Step) → stepOf (visit x track h) ≡ v → Next → NextIs x track end b r
       step h w (skip m) g ih =
-          let q : recordsFrom x track end b ≡ recordsFrom x track end m = at-sync x track end b h w ∙ ap (λ (v : Step). onStep v (recordsFrom x track end)) g in
+          let q : recordsFrom x track end b ≡ recordsFrom x track end m = at-sync x track end b h w ∙ ap
+          (λ (v : Step). onStep v (recordsFrom x track end)) g in
           let k : b < m = omega (arith, next-found x end b h w .1 .1, skip-on x track h m g) in
           earlier b m r k (next-found x end b h w .0) q (ih m (omega arith) (sym q ∙ e))
       step h w (good s) g ih =
@@ -133,4 +144,9 @@ pub few-left : (ring : List ℕ) (track start b : ℕ) (done : List SectorRecord
     → done ++ recordsFrom (bitAt ring) track (start % bits ring + bits ring) b ≡ records ring track start
     → length done + length (recordsFrom (bitAt ring) track (start % bits ring + bits ring) b) ≤ 195
 few-left ring track start b done h e =
-    omega (arith, sym (length-append done (recordsFrom (bitAt ring) track (start % bits ring + bits ring) b)) ∙ ap length e, few-records ring track start h)
+    omega (
+      arith,
+      sym (length-append done (recordsFrom (bitAt ring) track (start % bits ring + bits ring) b)) ∙ ap length e,
+      few-records
+          ring track start h,
+    )

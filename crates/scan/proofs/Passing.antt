@@ -1,14 +1,14 @@
 -- A scan that a caller goes through record by record: the records passed, and those that are left.
 -- Assumes nothing.
-use Prim.Native.Nat.{ℕ, zero, suc, _+_, _-_, _*_, _%_, _≤_, _<_}
-use mathlib.Core.Path.{_≡_, refl, sym, ap, _∙_, subst}
+use Prim.Native.Nat.{ℕ, _+_, _%_, _≤_, _<_}
+use mathlib.Core.Path.{_≡_, refl, sym, ap, _∙_}
 use mathlib.Core.List.{List, [], _∷_, _++_, append-assoc, append-nil}
 use native.Mathlib.Omega.{arith}
-use lib.ListN.{length, length-append}
+use lib.ListN.{length}
 use Rattle.ring.specs.Bit.{bits, bitAt}
 use Rattle.scan.specs.declared.SectorRecord.{SectorRecord}
 use Rattle.scan.specs.Scan.{recordsFrom, records}
-use Rattle.scan.proofs.ScanLaws.{Every, few-records}
+use Rattle.scan.proofs.ScanLaws.{Every}
 use Rattle.scan.proofs.NextLaws.{NextIs, few-left}
 
 -- the end of a scan of one revolution
@@ -33,7 +33,8 @@ sets-out ring track start = record { sized = tt; rest = refl }
 
 module _ {ring : List ℕ} {track start bit : ℕ} {done : List SectorRecord} (p : Passing ring track start done bit) where
   -- a record more
-  pub passes : (r : SectorRecord) → NextIs (bitAt ring) track (endOf ring start) bit r → Passing ring track start (done ++ (r ∷ [])) (r .place + 2600)
+  pub passes : (r : SectorRecord) → NextIs (bitAt ring) track (endOf ring start) bit r → Passing ring track start (done ++ (r ∷ []))
+      (r .place + 2600)
   passes r i =
       record {
         sized = every-snoc Sized done r (p .sized) (i .long);

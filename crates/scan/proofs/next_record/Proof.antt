@@ -1,21 +1,21 @@
-use Prim.Native.Nat.{ℕ, _+_, _-_, _≤_, _<_}
+use mathlib.Core.Logic.{⊎-elim}
+use mathlib.Core.List.{[]}
+use Prim.Native.Nat.{_+_, _-_, _≤_, _<_}
 use mathlib.Core.Path.{_≡_, refl, sym, ap, _∙_}
 use native.Mathlib.Omega.{arith}
 use borrow.Author.Needs.{needs}
 use Rattle.ring.specs.Bit.{bitAt}
+use Rattle.scan.specs.declared.SyncEnd.the-variants.{At}
+use Rattle.scan.specs.declared.HeaderAt.the-variants.{Sector}
 use Rattle.scan.specs.Sync.{syncEnd}
+use Rattle.scan.specs.Visit.{visit}
 use Rattle.scan.specs.Scan.{recordsFrom}
-use Rattle.scan.specs.Answers.{nextOf}
+use Rattle.scan.specs.Answers.{headerAnswer, nextOf}
 use Rattle.scan.proofs.ScanLaws.{found-sync}
 use Rattle.scan.proofs.NextLaws.{over}
 use Rattle.scan.proofs.LoopLaws.{stops, no-header, no-data, bad-block, other-header, good-block}
 use Rattle.scan.proofs.next_record.Statement.{statement}
 use Rattle.scan.proofs.next_record.Tie as tie
-use Rattle.scan.proofs.next_record.Reads as reads
-use Rattle.scan.proofs.next_record.Lts as lts
-use Rattle.scan.proofs.data_at.Reads as data-at-reads
-use Rattle.scan.proofs.find_sync_end.Reads as find-sync-end-reads
-use Rattle.scan.proofs.header_at.Reads as header-at-reads
 
 abbrev Inv-scan : tie.InvT-scan
 Inv-scan ring track end from bit₀ bit = recordsFrom (bitAt ring) track end bit ≡ recordsFrom (bitAt ring) track end from
@@ -36,171 +36,178 @@ in-head c = c .before .before .before .before
 abbrev in-data : tie.After-data-sync Inv-scan μ-scan → tie.After-head Inv-scan μ-scan
 in-data c = c .before .before .before .before
 
--- what each call said, and where the places lie
+-- what each call said
+sync-is : (c : tie.After-sync Inv-scan μ-scan)
+    → let a = start (in-sync c) .args in
+    let b = in-sync c .before .scan .bit in syncEnd (bitAt (a .ring .now)) b (a .end + 16 - b) ≡ At (c .sync .given .0 .0)
+sync-is c = sym (c .before .before .find-sync-end .ensures) ∙ c .sync .given .1
+
+head-is : (c : tie.After-head Inv-scan μ-scan)
+    → let a = start (in-sync (in-head c)) .args in
+    headerAnswer (visit (bitAt (a .ring .now)) (a .track) (in-head c .sync .given .0 .0) .found) ≡ Sector (c .head .given .0 .0)
+head-is c = sym (c .before .before .header-at .ensures) ∙ c .head .given .1
+
+data-is : (c : tie.After-data-sync Inv-scan μ-scan)
+    → let y = in-head (in-data c) in
+    syncEnd (bitAt (start (in-sync y) .args .ring .now)) (y .sync .given .0 .0 + 80) 768 ≡ At (c .data-sync .given .0 .0)
+data-is c = sym (c .before .before .find-sync-end2 .ensures) ∙ c .data-sync .given .1
+
+-- the loop is left past the end, or where no sync ends
+none-left : (c : tie.Left-scan Inv-scan μ-scan)
+    → let a = c .before .before .before .args in recordsFrom (bitAt (a .ring .now)) (a .track) (a .end) (c .before .scan .bit) ≡ []
+none-left c =
+    ⊎-elim (λ w. over _ _ _ _ (w .left)) (λ w. stops _ _ _ _ (w .0 .taken) (sym (w .1 .ensures) ∙ w .3 .given .1))
+    (c .scan-test .came)
+
+-- where the places lie
 within : (c : tie.In-scan Inv-scan μ-scan) → (c .before .scan .bit < start c .args .end) × (start c .args .end ≤ 1048560)
 within c = (c .scan-test .taken, start c .pre .1)
 
 header-in : (c : tie.After-sync Inv-scan μ-scan) → c .sync .given .0 .0 < 1048576
-header-in c = omega (arith, found-sync _ _ _ _ (sym (c .before .before .find-sync-end .ensures) ∙ c .sync .given .1) .2, within (in-sync c))
+header-in c = omega (arith, found-sync _ _ _ _ (sync-is c) .2, within (in-sync c))
 
 header-past : (c : tie.After-sync Inv-scan μ-scan) → in-sync c .before .scan .bit < c .sync .given .0 .0
-header-past c = omega (arith, found-sync _ _ _ _ (sym (c .before .before .find-sync-end .ensures) ∙ c .sync .given .1) .1)
+header-past c = omega (arith, found-sync _ _ _ _ (sync-is c) .1)
 
 place-in : (c : tie.After-data-sync Inv-scan μ-scan) → c .data-sync .given .0 .0 < 1049424
-place-in c = omega (arith, found-sync _ _ _ _ (sym (c .before .before .find-sync-end2 .ensures) ∙ c .data-sync .given .1) .2, header-in (in-head (in-data c)))
+place-in c = omega (arith, found-sync _ _ _ _ (data-is c) .2, header-in (in-head (in-data c)))
 
 place-past : (c : tie.After-data-sync Inv-scan μ-scan) → in-head (in-data c) .sync .given .0 .0 < c .data-sync .given .0 .0
-place-past c = omega (arith, found-sync _ _ _ _ (sym (c .before .before .find-sync-end2 .ensures) ∙ c .data-sync .given .1) .1)
+place-past c = omega (arith, found-sync _ _ _ _ (data-is c) .1)
 
--- src/lib.rt:184:5
 scan-holds : tie.Need-scan-holds Inv-scan μ-scan
 scan-holds c = refl
 
--- src/lib.rt:185:45
 add-find-sync-end : tie.Need-add-find-sync-end Inv-scan μ-scan
 add-find-sync-end c = omega (arith, within c)
 
--- src/lib.rt:185:45
 sub-find-sync-end : tie.Need-sub-find-sync-end Inv-scan μ-scan
 sub-find-sync-end c = omega (arith, within c)
 
--- src/lib.rt:185:13
 find-sync-end-requires : tie.Need-find-sync-end-requires Inv-scan μ-scan
 find-sync-end-requires c κs = (start c .pre .0, omega (arith, within c))
 
--- src/lib.rt:186:25
 enum-known-sync : tie.Need-enum-known-sync Inv-scan μ-scan
 enum-known-sync c = search needs
 
--- src/lib.rt:187:13
 enum-told : tie.Need-enum-told Inv-scan μ-scan
 enum-told c = search needs
 
--- src/lib.rt:189:13
 header-at-requires : tie.Need-header-at-requires Inv-scan μ-scan
 header-at-requires c κs = (start (in-sync (c .before)) .pre .0, omega (arith, header-in (c .before)))
 
--- src/lib.rt:190:30
 enum-known-head : tie.Need-enum-known-head Inv-scan μ-scan
 enum-known-head c = search needs
 
--- src/lib.rt:191:19
 enum-told-2 : tie.Need-enum-told-2 Inv-scan μ-scan
 enum-told-2 c = search needs
 
--- src/lib.rt:191:19
 add-bit : tie.Need-add-bit Inv-scan μ-scan
 add-bit c = omega (arith, header-in (c .before .before .before .before))
 
--- src/lib.rt:184:5
 scan-less : tie.Need-scan-less Inv-scan μ-scan
-scan-less c = let y = c .before .before .before .before in omega (arith, header-past y, in-sync y .scan-test .taken)
+scan-less c = let y = c .before .before .before .before in omega (arith, header-past y, within (in-sync y))
 
--- src/lib.rt:184:5
 scan-again : tie.Need-scan-again Inv-scan μ-scan
-scan-again c = let y = c .before .before .before .before in sym (no-header _ _ _ _ (in-sync y .scan-test .taken) _ (sym (y .before .before .find-sync-end .ensures) ∙ y .sync .given .1) (sym (c .before .before .header-at .ensures) ∙ c .enum-told2 .given .1)) ∙ in-sync y .before .scan .inv
+scan-again c =
+    let y = c .before .before .before .before in
+    sym (no-header _ _ _ _ (within (in-sync y) .0) _ (sync-is y) (sym (c .before .before .header-at .ensures) ∙ c .enum-told2 .given .1))
+    ∙ in-sync y .before .scan .inv
 
--- src/lib.rt:194:45
 add-find-sync-end-2 : tie.Need-add-find-sync-end-2 Inv-scan μ-scan
 add-find-sync-end-2 c = omega (arith, header-in (in-head (c .before)))
 
--- src/lib.rt:194:13
 find-sync-end-requires-2 : tie.Need-find-sync-end-requires-2 Inv-scan μ-scan
 find-sync-end-requires-2 c κs = (start (in-sync (in-head (c .before))) .pre .0, omega (arith, header-in (in-head (c .before))))
 
--- src/lib.rt:195:25
 enum-known-data-sync : tie.Need-enum-known-data-sync Inv-scan μ-scan
 enum-known-data-sync c = search needs
 
--- src/lib.rt:196:19
 enum-told-3 : tie.Need-enum-told-3 Inv-scan μ-scan
 enum-told-3 c = search needs
 
--- src/lib.rt:196:19
 add-bit-2 : tie.Need-add-bit-2 Inv-scan μ-scan
 add-bit-2 c = omega (arith, header-in (in-head (c .before .before .before .before)))
 
--- src/lib.rt:184:5
 scan-less-2 : tie.Need-scan-less-2 Inv-scan μ-scan
-scan-less-2 c = let y = in-head (c .before .before .before .before) in omega (arith, header-past y, in-sync y .scan-test .taken)
+scan-less-2 c = let y = in-head (c .before .before .before .before) in omega (arith, header-past y, within (in-sync y))
 
--- src/lib.rt:184:5
 scan-again-2 : tie.Need-scan-again-2 Inv-scan μ-scan
 scan-again-2 c =
     let h = c .before .before .before .before in
     let y = in-head h in
-    sym (no-data _ _ _ _ (in-sync y .scan-test .taken) _ (sym (y .before .before .find-sync-end .ensures) ∙ y .sync .given .1) _ (sym (h .before .before .header-at .ensures) ∙ h .head .given .1) (sym (c .before .before .find-sync-end2 .ensures) ∙ c .enum-told3 .given .1)) ∙ in-sync y .before .scan .inv
+    sym (no-data _ _ _ _ (within (in-sync y) .0) _ (sync-is y) _ (head-is h) (sym (c .before .before .find-sync-end2 .ensures) ∙
+    c .enum-told3 .given .1))
+    ∙ in-sync y .before .scan .inv
 
--- src/lib.rt:199:13
 data-at-requires : tie.Need-data-at-requires Inv-scan μ-scan
 data-at-requires c κs = (start (in-sync (in-head (in-data (c .before)))) .pre .0, omega (arith, place-in (c .before)))
 
--- src/lib.rt:203:21
 enum-told-4 : tie.Need-enum-told-4 Inv-scan μ-scan
 enum-told-4 c = search needs
 
--- src/lib.rt:204:50
-cast-t20 : tie.Need-cast-t20 Inv-scan μ-scan
-cast-t20 c = search needs
+cast-a-record : tie.Need-cast-a-record Inv-scan μ-scan
+cast-a-record c = search needs
 
--- src/lib.rt:205:17
+a-record-requires : tie.Need-a-record-requires Inv-scan μ-scan
+a-record-requires c κs = search needs
+
 returns : tie.Need-returns Inv-scan μ-scan
 returns c =
-    let d = c .before .before .before .before .before in
-    let h = in-data d in
-    let y = in-head h in (
-      ap nextOf
-          (sym (good-block _ _ _ _ (in-sync y .scan-test .taken) _ (sym (y .before .before .find-sync-end .ensures) ∙ y .sync .given .1) _ (sym (h .before .before .header-at .ensures) ∙ h .head .given .1)
-          _ (sym (d .before .before .find-sync-end2 .ensures) ∙ d .data-sync .given .1) _ (c .before .before .before .data-at .ensures) (c .before .enum-told4 .given .1))
+    let d = c .before .before .before .before .before .before in
+    let y = in-head (in-data d) in
+    let o = c .before .before .before .before .data-at in
+    let e = c .a-record .ensures in (
+      e ∙ ap nextOf (sym (good-block _ _ _ _ (within (in-sync y) .0) _ (sync-is y) _ (head-is (in-data d)) _ (data-is d) _ (o .ensures)
+          (c .before .before .enum-told4 .given .1))
           ∙ in-sync y .before .scan .inv),
-      omega (arith, place-in d),
+      rw e (omega (arith, place-in d)),
     )
 
--- src/lib.rt:208:23
 enum-told-5 : tie.Need-enum-told-5 Inv-scan μ-scan
 enum-told-5 c = search needs
 
--- src/lib.rt:208:23
 add-bit-3 : tie.Need-add-bit-3 Inv-scan μ-scan
 add-bit-3 c = omega (arith, place-in (c .before .before .before .before))
 
--- src/lib.rt:184:5
 scan-less-3 : tie.Need-scan-less-3 Inv-scan μ-scan
-scan-less-3 c = let d = c .before .before .before .before in omega (arith, place-past d, header-past (in-head (in-data d)), in-sync (in-head (in-data d)) .scan-test .taken)
+scan-less-3 c =
+    let d = c .before .before .before .before in
+    let y = in-head (in-data d) in
+    omega (arith, place-past d, header-past y, within (in-sync y))
 
--- src/lib.rt:184:5
 scan-again-3 : tie.Need-scan-again-3 Inv-scan μ-scan
 scan-again-3 c =
     let d = c .before .before .before .before in
     let y = in-head (in-data d) in
-    sym (other-header _ _ _ _ (in-sync y .scan-test .taken) _ (sym (y .before .before .find-sync-end .ensures) ∙ y .sync .given .1) _ (sym ((in-data d) .before .before .header-at .ensures) ∙ (in-data d) .head .given .1) _ (sym (d .before .before .find-sync-end2 .ensures) ∙ d .data-sync .given .1) _ (c .before .before .data-at .ensures) (c .enum-told5 .given .1)) ∙ in-sync y .before .scan .inv
+    sym (other-header _ _ _ _ (within (in-sync y) .0) _ (sync-is y) _ (head-is (in-data d)) _ (data-is d) _
+    (c .before .before .data-at .ensures) (c .enum-told5 .given .1))
+    ∙ in-sync y .before .scan .inv
 
--- src/lib.rt:211:23
 enum-told-6 : tie.Need-enum-told-6 Inv-scan μ-scan
 enum-told-6 c = search needs
 
--- src/lib.rt:211:23
 add-bit-4 : tie.Need-add-bit-4 Inv-scan μ-scan
 add-bit-4 c = omega (arith, header-in (in-head (in-data (c .before .before .before .before))))
 
--- src/lib.rt:184:5
 scan-less-4 : tie.Need-scan-less-4 Inv-scan μ-scan
-scan-less-4 c = let y = in-head (in-data (c .before .before .before .before)) in omega (arith, header-past y, in-sync y .scan-test .taken)
+scan-less-4 c = let y = in-head (in-data (c .before .before .before .before)) in omega (arith, header-past y, within (in-sync y))
 
--- src/lib.rt:184:5
 scan-again-4 : tie.Need-scan-again-4 Inv-scan μ-scan
 scan-again-4 c =
     let d = c .before .before .before .before in
     let y = in-head (in-data d) in
-    sym (bad-block _ _ _ _ (in-sync y .scan-test .taken) _ (sym (y .before .before .find-sync-end .ensures) ∙ y .sync .given .1) _ (sym ((in-data d) .before .before .header-at .ensures) ∙ (in-data d) .head .given .1) _ (sym (d .before .before .find-sync-end2 .ensures) ∙ d .data-sync .given .1) _ (c .before .before .data-at .ensures) (c .enum-told6 .given .1)) ∙ in-sync y .before .scan .inv
+    sym (bad-block _ _ _ _ (within (in-sync y) .0) _ (sync-is y) _ (head-is (in-data d)) _ (data-is d) _
+    (c .before .before .data-at .ensures) (c .enum-told6 .given .1))
+    ∙ in-sync y .before .scan .inv
 
--- src/lib.rt:178:1
+no-record-requires : tie.Need-no-record-requires Inv-scan μ-scan
+no-record-requires c κs = search needs
+
 returns-2 : tie.Need-returns-2 Inv-scan μ-scan
-returns-2 c = (ap nextOf (sym (over _ _ _ _ (c .scan-test .left)) ∙ c .before .scan .inv), omega arith)
-
--- src/lib.rt:178:1
-returns-3 : tie.Need-returns-3 Inv-scan μ-scan
-returns-3 c = let y = c .before .before .before in (ap nextOf (sym (stops _ _ _ _ (y .scan-test .taken) (sym (c .before .before .find-sync-end .ensures) ∙ c .enum-told .given .1)) ∙ y .before .scan .inv), omega arith)
+returns-2 c =
+    let e = c .no-record .ensures in
+    (e ∙ ap nextOf (sym (none-left (c .before)) ∙ c .before .before .scan .inv), rw e (omega arith))
 
 pub next-record-spec : {M : Type 1} → statement M
 next-record-spec =
@@ -229,7 +236,8 @@ next-record-spec =
     scan-again-2
     data-at-requires
     enum-told-4
-    cast-t20
+    cast-a-record
+    a-record-requires
     returns
     enum-told-5
     add-bit-3
@@ -239,5 +247,5 @@ next-record-spec =
     add-bit-4
     scan-less-4
     scan-again-4
-    returns-2
-    returns-3)
+    no-record-requires
+    returns-2)
