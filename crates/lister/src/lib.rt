@@ -3,7 +3,7 @@ ghost use mathlib.Core.Path.{_≡_};
 ghost use mathlib.Core.List.{_++_};
 ghost use Prim.Native.Nat.{_+_, _*_, _<_, _≤_};
 ghost use lib.ListN.{length};
-ghost use Rattle.base.specs.Lists.{joined};
+ghost use Rattle.geometry.specs.Zones.{sectorsOf};
 ghost use Rattle.text.specs.Numerals.{decimal};
 ghost use Rattle.text.specs.Put.{Put};
 ghost use Rattle.lister.specs.Envelope.{isEnvelope, longestRing};
@@ -29,10 +29,10 @@ fn is_envelope(input: &[u8]) -> bool
     if input.len() < 10 {
         return false;
     }
-    if !base::same_bytes(&input[..3], b"TRK") {
-        return false;
+    if base::same_bytes(&input[..3], b"TRK") {
+        return base::read_word(input, 3) == 1;
     }
-    base::read_word(input, 3) == 1
+    false
 }
 
 // A word and a number in decimal.
@@ -107,4 +107,61 @@ fn put_sectors(out: &mut [u8], at: usize, count: u8, statuses: &[u8], payloads: 
         sector += 1;
     }
     behind
+}
+
+// The lines of a track that was read: how many sectors were found, their statuses and payloads.
+fn put_track(out: &mut [u8], track: u8, found: usize, statuses: &[u8], payloads: &[u8]) -> usize
+    requires { ⌜ 382 ≤ length (now out) ⌝ }
+    requires { ⌜ (found ≤ 21) × (21 ≤ length (now statuses)) × (5376 ≤ length (now payloads)) ⌝ }
+    ensures { λ r. ⌜ Put (now (out .entry)) 0
+        (headLine track found (sectorsOf track) ++ lines (sectorsOf track) (now (statuses .entry)) (now (payloads .entry))) (now (out .exit)) r ⌝ }
+{
+    let count = geometry::sectors_per_track(track);
+    let at = put_head(out, track, found, count);
+    put_sectors(out, at, count, statuses, payloads)
+}
+
+// The lines of a ring.
+fn put_ring(out: &mut [u8], ring: &[u8], track: u8, start: usize) -> usize
+    requires { ⌜ 382 ≤ length (now out) ⌝ }
+    requires { ⌜ (0 < length (now ring)) × (length (now ring) ≤ longestRing) ⌝ }
+    ensures { λ r. ⌜ Put (now (out .entry)) 0 (ringLines (now (ring .entry)) track start) (now (out .exit)) r ⌝ }
+{
+    let mut payloads = [0u8; 5376];
+    let mut statuses = [0u8; 21];
+    let answer = scan::decode_track_from(ring, track, start, &mut payloads, &mut statuses);
+    match answer {
+        TrackRead::Found(found) => put_track(out, track, found, &statuses, &payloads),
+        TrackRead::Refused(number) => put_refused(out, number),
+    }
+}
+
+// The listing of an input.
+fn put_listing(out: &mut [u8], input: &[u8]) -> usize
+    requires { ⌜ 382 ≤ length (now out) ⌝ }
+    ensures { λ r. ⌜ Put (now (out .entry)) 0 (listing (now (input .entry))) (now (out .exit)) r ⌝ }
+{
+    if is_envelope(input) {
+        let ring = &input[10..];
+        if ring.len() == 0 {
+            return put_refused(out, base::RING_EMPTY);
+        }
+        if MAX_LISTED < ring.len() {
+            return put_refused(out, base::RING_TOO_LONG);
+        }
+        return put_ring(out, ring, input[5], base::read_long(input, 6));
+    }
+    put_refused(out, base::WRONG_IMAGE)
+}
+
+// What is printed for an input: the sectors found on its ring, or the refusal. Room for the longest listing is needed,
+// whatever it lists.
+pub fn list_ring(input: &[u8], out: &mut [u8]) -> Listed
+    ensures { λ r. ⌜ (r ≡ listed (now (input .entry)) (now (out .entry)))
+        × (now (out .exit) ≡ outAfter (now (input .entry)) (now (out .entry))) ⌝ }
+{
+    if out.len() < ROOM {
+        return Listed::Refused(base::NO_ROOM);
+    }
+    Listed::Written(put_listing(out, input))
 }

@@ -1,4 +1,8 @@
+use mathlib.Core.Path.{sym}
+use native.Mathlib.Omega.{arith}
 use borrow.Author.Needs.{needs}
+use lib.Seq.{length-take-le}
+use Rattle.lister.proofs.Envelopes.{short-input, other-letters, by-version}
 use Rattle.lister.proofs.is_envelope.Statement.{statement}
 use Rattle.lister.proofs.is_envelope.Tie as tie
 use Rattle.lister.proofs.is_envelope.Reads as reads
@@ -8,11 +12,11 @@ use Rattle.base.proofs.same_bytes.Reads as same-bytes-reads
 
 -- src/lib.rt:30:9
 returns : tie.Need-returns
-returns c = ?
+returns c = short-input (c .before .before .args .input .now) (omega arith)
 
 -- src/lib.rt:32:26
 slice-aggregate-same-bytes : tie.Need-slice-aggregate-same-bytes
-slice-aggregate-same-bytes c = ?
+slice-aggregate-same-bytes c = sym (length-take-le 3 (c .before .before .before .args .input .now) (omega arith))
 
 -- src/lib.rt:32:39
 slice-aggregate-same-bytes-2 : tie.Need-slice-aggregate-same-bytes-2
@@ -22,17 +26,19 @@ slice-aggregate-same-bytes-2 c = search needs
 same-bytes-requires : tie.Need-same-bytes-requires
 same-bytes-requires c κs = search needs
 
--- src/lib.rt:33:9
-returns-2 : tie.Need-returns-2
-returns-2 c = ?
-
--- src/lib.rt:35:5
 read-word-requires : tie.Need-read-word-requires
 read-word-requires c κs = search needs
 
--- src/lib.rt:26:1
+returns-2 : tie.Need-returns-2
+returns-2 c =
+    let s = c .before .before .same-bytes in
+    by-version (c .before .before .before .before .before .before .before .args .input .now) (omega arith) (s .result) (s .ensures)
+    (c .before .if2 .taken) (c .read-word .result) (c .read-word .ensures .0)
+
 returns-3 : tie.Need-returns-3
-returns-3 c = ?
+returns-3 c =
+    let s = c .before .same-bytes in
+    other-letters (c .before .before .before .before .before .before .args .input .now) (omega arith) (s .result) (s .ensures) (c .if2 .left)
 
 pub is-envelope-spec : {M : Type 1} → statement M
 is-envelope-spec =
@@ -42,6 +48,6 @@ is-envelope-spec =
     slice-aggregate-same-bytes
     slice-aggregate-same-bytes-2
     same-bytes-requires
-    returns-2
     read-word-requires
+    returns-2
     returns-3)

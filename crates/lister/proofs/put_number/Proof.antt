@@ -1,4 +1,6 @@
 use borrow.Author.Needs.{needs}
+use Rattle.text.specs.Numerals.{decimal}
+use Rattle.text.proofs.PutLaws.{put-more}
 use Rattle.lister.proofs.put_number.Statement.{statement}
 use Rattle.lister.proofs.put_number.Tie as tie
 use Rattle.lister.proofs.put_number.Reads as reads
@@ -20,7 +22,11 @@ same-length c = search needs
 
 -- src/lib.rt:39:1
 returns : tie.Need-returns
-returns c = ?
+returns c =
+    let q = c .before .before .put-decimal in
+    let p = c .before .before .before .before .before .before .put-bytes in
+    let a = c .before .before .before .before .before .before .before .before .before .before .args in
+    put-more (a .out .now) (p .last .0) (q .last .0) (a .word .now) (decimal (a .n)) (a .at) (p .result) (q .result) (p .ensures) (q .ensures)
 
 pub put-number-spec : {M : Type 1} → statement M
 put-number-spec = tie.close (tie.spec put-bytes-requires put-decimal-requires same-length returns)

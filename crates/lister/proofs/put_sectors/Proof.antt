@@ -1,3 +1,11 @@
+use Prim.Native.Nat.{ℕ, _-_, _≤_}
+use mathlib.Core.Path.{_≡_, refl, _∙_, subst}
+use native.Mathlib.Omega.{arith}
+use borrow.Author.Needs.{needs}
+use lib.ListN.{length}
+use Rattle.text.specs.Put.{Put}
+use Rattle.lister.specs.Lines.{lines}
+use Rattle.lister.proofs.Putting.{lines-none, lines-more, lines-long}
 use Rattle.lister.proofs.put_sectors.Statement.{statement}
 use Rattle.lister.proofs.put_sectors.Tie as tie
 use Rattle.lister.proofs.put_sectors.Reads as reads
@@ -5,38 +13,49 @@ use Rattle.lister.proofs.put_sectors.Lts as lts
 use Rattle.lister.proofs.put_sector.Reads as put-sector-reads
 
 abbrev Inv-loop : tie.InvT-loop
-Inv-loop out₀ at count statuses payloads behind₀ sector₀ out behind sector = ?
+Inv-loop out₀ at count statuses payloads behind₀ sector₀ out behind sector =
+    (sector ≤ count) × (length out ≡ length out₀) × Put out₀ at (lines sector statuses payloads) out behind
 
 abbrev μ-loop : tie.MeasureT-loop
-μ-loop out₀ at count statuses payloads behind₀ sector₀ out behind sector = ?
+μ-loop out₀ at count statuses payloads behind₀ sector₀ out behind sector = count - sector
 
--- src/lib.rt:105:5
 loop-holds : tie.Need-loop-holds Inv-loop μ-loop
-loop-holds c = ?
+loop-holds c =
+    let a = c .before .before .before .args in
+    (omega arith, refl, lines-none (a .statuses .now) (a .payloads .now) (a .out .now) (a .at))
 
--- src/lib.rt:106:9
 put-sector-requires : tie.Need-put-sector-requires Inv-loop μ-loop
-put-sector-requires c κs = ?
+put-sector-requires c κs =
+    let l = c .before .before .loop in
+    let a = c .before .before .before .before .before .before .args in
+    omega (arith, l .inv .2 .next, lines-long (a .statuses .now) (a .payloads .now) (l .sector))
 
--- src/lib.rt:107:9
 add-sector : tie.Need-add-sector Inv-loop μ-loop
-add-sector c = ?
+add-sector c = omega arith
 
--- src/lib.rt:105:5
 loop-less : tie.Need-loop-less Inv-loop μ-loop
-loop-less c = ?
+loop-less c = omega arith
 
--- src/lib.rt:105:5
 loop-again : tie.Need-loop-again Inv-loop μ-loop
-loop-again c = ?
+loop-again c =
+    let p = c .before .before .put-sector in
+    let l = c .before .before .before .before .before .loop in
+    let a = c .before .before .before .before .before .before .before .before .before .args in (
+      omega arith,
+      p .kept .0 ∙ l .inv .1,
+      lines-more (a .statuses .now) (a .payloads .now) (a .out .now) (l .out) (p .last .0) (a .at) (l .sector) (l .behind) (p .result)
+          (l .inv .2) (p .ensures),
+    )
 
--- src/lib.rt:98:1
 same-length : tie.Need-same-length Inv-loop μ-loop
-same-length c = ?
+same-length c = search needs
 
--- src/lib.rt:98:1
 returns : tie.Need-returns Inv-loop μ-loop
-returns c = ?
+returns c =
+    let l = c .before .loop in
+    let a = c .before .before .before .before .before .args in
+    let e : l .sector ≡ a .count = omega arith in
+    subst (λ (n : ℕ). Put (a .out .now) (a .at) (lines n (a .statuses .now) (a .payloads .now)) (l .out) (l .behind)) e (l .inv .2)
 
 pub put-sectors-spec : {M : Type 1} → statement M
 put-sectors-spec =
