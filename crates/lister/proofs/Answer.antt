@@ -4,11 +4,11 @@ use mathlib.Core.Path.{_≡_, refl, sym, ap, _∙_, subst}
 use mathlib.Core.Logic.{_≢_}
 use mathlib.Core.Bool.{Bool, true, false, _&&_}
 use mathlib.Core.List.{List, _++_}
-use Prim.Native.Nat.{ℕ, _≤_, _<_}
+use Prim.Native.Nat.{ℕ, _-_, _≤_, _<_}
 use native.Mathlib.Omega.{arith}
 use lib.Dec.{eqb, leb, ltb, leb→le}
-use lib.ListN.{length, drop, length-append}
-use lib.Seq.{sets}
+use lib.ListN.{length, take, drop, length-append, length-drop}
+use lib.Seq.{sets, take-all}
 use Rattle.base.specs.Choice.{pick}
 use Rattle.base.specs.Lists.{joined, xorOf, countOf}
 use Rattle.base.specs.Refusals.{ringEmpty, ringTooLong, wrongImage, noRoom}
@@ -32,19 +32,23 @@ module _ (input : List ℕ) (envelope : Bool) (e : envelope ≡ isEnvelope input
   unfolding listing
   wrong-listing t = rw (← e, t)
 
-  module _ (t : envelope ≡ true) where
-    pub empty-listing : length (ringIn input) ≡ 0 → refusedLine ringEmpty ≡ listing input
+  module _ (t : envelope ≡ true) (ring : List ℕ) (r : ring ≡ ringIn input) where
+    pub empty-listing : length ring ≡ 0 → refusedLine ringEmpty ≡ listing input
     unfolding listing
-    empty-listing z = rw (← e, t, eqb-yes (length (ringIn input)) 0 z)
+    empty-listing z = rw (← e, t, ← r, eqb-yes (length ring) 0 z)
 
-    module _ (some : length (ringIn input) ≢ 0) where
-      pub long-listing : longestRing < length (ringIn input) → refusedLine ringTooLong ≡ listing input
+    module _ (some : length ring ≢ 0) where
+      pub long-listing : longestRing < length ring → refusedLine ringTooLong ≡ listing input
       unfolding listing
-      long-listing l = rw (← e, t, eqb-no (length (ringIn input)) 0 some, ltb-yes longestRing (length (ringIn input)) l)
+      long-listing l = rw (← e, t, ← r, eqb-no (length ring) 0 some, ltb-yes longestRing (length ring) l)
 
-      pub ring-listing : length (ringIn input) ≤ longestRing → ringLines (ringIn input) (trackIn input) (startIn input) ≡ listing input
+      pub ring-listing : length ring ≤ longestRing → (start : ℕ) → start ≡ startIn input → ringLines ring (trackIn input) start ≡ listing input
       unfolding listing
-      ring-listing l = rw (← e, t, eqb-no (length (ringIn input)) 0 some, ltb-no longestRing (length (ringIn input)) l)
+      ring-listing l start s = rw (← e, t, ← r, eqb-no (length ring) 0 some, ltb-no longestRing (length ring) l, s)
+
+-- the ring as the code has it, the part from byte 10 on
+pub rest-is : (input : List ℕ) → take (length input - 10) (drop 10 input) ≡ ringIn input
+rest-is input = take-all (length input - 10) (drop 10 input) (omega (arith, length-drop 10 input))
 
 -- an envelope has ten bytes in front of its ring
 pub header-there : (input : List ℕ) (envelope : Bool) → envelope ≡ isEnvelope input → envelope ≡ true → 10 ≤ length input

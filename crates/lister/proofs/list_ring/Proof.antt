@@ -24,7 +24,7 @@ returns-2 : tie.Need-returns-2
 returns-2 c =
     let p = c .before .before .put-listing in
     let a = c .before .before .before .before .before .before .before .args in
-    all-listed (a .input .now) (a .out .now) (omega arith) (c .before .before .before .before .before .before .shared-slice-known .given 5) (p .last .0) (p .result) (p .ensures)
+    all-listed (a .input .now) (a .out .now) (omega arith) (omega (arith, c .before .before .before .before .before .before .shared-slice-known .given 5)) (p .last .0) (p .result) (p .ensures)
 
 pub list-ring-spec : {M : Type 1} → statement M
 list-ring-spec = tie.close (tie.spec returns put-listing-requires same-length returns-2)

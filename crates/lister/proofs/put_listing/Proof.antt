@@ -1,7 +1,8 @@
 use native.Mathlib.Omega.{arith}
 use borrow.Author.Needs.{needs}
+use Rattle.base.specs.Refusals.{ringEmpty, ringTooLong, wrongImage}
 use Rattle.lister.specs.Listing.{refusedLine, ringLines, listing}
-use Rattle.lister.proofs.Answer.{wrong-listing, empty-listing, long-listing, ring-listing, header-there, put-same}
+use Rattle.lister.proofs.Answer.{wrong-listing, empty-listing, long-listing, ring-listing, rest-is, header-there, put-same}
 use Rattle.lister.proofs.put_listing.Statement.{statement}
 use Rattle.lister.proofs.put_listing.Tie as tie
 use Rattle.lister.proofs.put_listing.Reads as reads
@@ -41,7 +42,13 @@ same-length c = search needs
 
 -- src/lib.rt:147:13
 returns : tie.Need-returns
-returns c = ?
+returns c =
+    let p = c .before .before .put-refused in
+    let e = c .before .before .before .before .before .before .before .is-envelope in
+    let a = c .before .before .before .before .before .before .before .before .before .before .args in
+    put-same (a .out .now) (p .last .0) (refusedLine ringEmpty) (listing (a .input .now)) (p .result)
+    (empty-listing (a .input .now) (e .result) (e .ensures) (c .before .before .before .before .before .before .if1 .taken) _ (rest-is (a .input .now)) (c .before .before .before .before .if2 .taken))
+    (p .ensures)
 
 -- src/lib.rt:150:13
 put-refused-requires-2 : tie.Need-put-refused-requires-2
@@ -53,7 +60,14 @@ same-length-2 c = search needs
 
 -- src/lib.rt:150:13
 returns-2 : tie.Need-returns-2
-returns-2 c = ?
+returns-2 c =
+    let p = c .before .before .put-refused2 in
+    let e = c .before .before .before .before .before .before .before .before .is-envelope in
+    let a = c .before .before .before .before .before .before .before .before .before .before .before .args in
+    put-same (a .out .now) (p .last .0) (refusedLine ringTooLong) (listing (a .input .now)) (p .result)
+    (long-listing (a .input .now) (e .result) (e .ensures) (c .before .before .before .before .before .before .before .if1 .taken) _ (rest-is (a .input .now)) (c .before .before .before .before .before .if2 .left)
+    (c .before .before .before .before .if3 .taken))
+    (p .ensures)
 
 -- src/lib.rt:152:36
 shared-slice-read-put-ring : tie.Need-shared-slice-read-put-ring
@@ -73,7 +87,15 @@ same-length-3 c = search needs
 
 -- src/lib.rt:152:9
 returns-3 : tie.Need-returns-3
-returns-3 c = ?
+returns-3 c =
+    let p = c .before .before .put-ring in
+    let l = c .before .before .before .read-long in
+    let e = c .before .before .before .before .before .before .before .before .before .before .is-envelope in
+    let a = c .before .before .before .before .before .before .before .before .before .before .before .before .before .args in
+    put-same (a .out .now) (p .last .0) _ (listing (a .input .now)) (p .result)
+    (ring-listing (a .input .now) (e .result) (e .ensures) (c .before .before .before .before .before .before .before .before .before .if1 .taken) _ (rest-is (a .input .now)) (c .before .before .before .before .before .before .before .if2 .left) (omega arith)
+    (l .result) (l .ensures .0))
+    (p .ensures)
 
 -- src/lib.rt:154:5
 put-refused-requires-3 : tie.Need-put-refused-requires-3
@@ -85,7 +107,13 @@ same-length-4 c = search needs
 
 -- src/lib.rt:140:1
 returns-4 : tie.Need-returns-4
-returns-4 c = ?
+returns-4 c =
+    let p = c .before .before .put-refused3 in
+    let e = c .before .before .before .before .before .is-envelope in
+    let a = c .before .before .before .before .before .before .before .before .args in
+    put-same (a .out .now) (p .last .0) (refusedLine wrongImage) (listing (a .input .now)) (p .result)
+    (wrong-listing (a .input .now) (e .result) (e .ensures) (c .before .before .before .before .if1 .left))
+    (p .ensures)
 
 pub put-listing-spec : {M : Type 1} → statement M
 put-listing-spec =

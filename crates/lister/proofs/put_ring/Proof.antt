@@ -39,7 +39,9 @@ put-track-requires c κs =
     let d = c .before .before .before .before .before .before .before .before .decode-track-from in
     let w = c .before .before .before .before .answer .given in
     let a = c .before .before .before .before .before .before .before .before .before .before .before .before .before .args in
-    (omega arith, few-found (a .ring .now) (a .track) (a .start) _ _ (omega arith) (omega arith) (omega arith) (omega arith) (d .result) (w .0 .0) (d .ensures .0) (w .1), omega (arith, d .kept), omega (arith, d .kept))
+    let n = few-found (a .ring .now) (a .track) (a .start) _ _ (omega arith) (omega arith) (omega arith) (omega arith)
+        (d .result) (w .0 .0) (d .ensures .0) (w .1) in
+    omega (arith, d .kept)
 
 -- src/lib.rt:135:28
 enum-known-answer-2 : tie.Need-enum-known-answer-2
@@ -55,7 +57,14 @@ same-length c = search needs
 
 -- src/lib.rt:125:1
 returns : tie.Need-returns
-returns c = ?
+returns c =
+    let p = c .before .before .put-track in
+    let w = c .before .before .before .before .before .before .before .answer .given in
+    let d = c .before .before .before .before .before .before .before .before .before .before .before .decode-track-from in
+    let a = c .before .before .before .before .before .before .before .before .before .before .before .before .before .before .before .before .args in
+    ring-put (a .ring .now) (a .track) (a .start) _ _ (omega arith) (omega arith) (omega arith) (omega arith)
+    (d .result) (w .0 .0) (d .last .1 .1 .1 .0) (d .last .1 .1 .1 .1 .0) (a .out .now) (p .last .0) (p .result)
+    (d .ensures .0) (w .1) (d .ensures .1) (d .ensures .2) (p .ensures)
 
 -- src/lib.rt:125:1
 same-length-2 : tie.Need-same-length-2
@@ -63,7 +72,13 @@ same-length-2 c = search needs
 
 -- src/lib.rt:125:1
 returns-2 : tie.Need-returns-2
-returns-2 c = ?
+returns-2 c =
+    let w = c .before .before .before .before .before .answer2 .given in
+    let d = c .before .before .before .before .before .before .before .before .before .decode-track-from in
+    let a = c .before .before .before .before .before .before .before .before .before .before .before .before .before .before .args in
+    absurd
+    (refusal-none (a .ring .now) (a .track) (a .start) _ _ (omega arith) (omega arith) (omega arith) (omega arith)
+    (d .result) (w .0 .0) (d .ensures .0) (w .1))
 
 pub put-ring-spec : {M : Type 1} → statement M
 put-ring-spec =
