@@ -19,7 +19,8 @@ joined-part k f sized (suc n) j h rest =
     ap (λ (l : List ℕ). take k (drop (k * j) l)) (append-assoc (joined n f) (f n) rest)
     ∙ go (ℕ-discrete j n) (λ l. joined-part k f sized n j l (f n ++ rest))
   where
-    go : Dec (j ≡ n) → (j < n → take k (drop (k * j) (joined n f ++ (f n ++ rest))) ≡ f j) → take k (drop (k * j) (joined n f ++ (f n ++ rest))) ≡ f j
+    go : Dec (j ≡ n) → (j < n → take k (drop (k * j) (joined n f ++ (f n ++ rest))) ≡ f j)
+        → take k (drop (k * j) (joined n f ++ (f n ++ rest))) ≡ f j
     go (no d) ih = ih (omega arith)
     go (yes e) ih =
         ap (λ (y : ℕ). take k (drop (k * y) (joined n f ++ (f n ++ rest)))) e

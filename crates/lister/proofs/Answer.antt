@@ -1,14 +1,14 @@
 -- What is printed for an input, and what `list_ring` answers, test by test.
 -- Assumes nothing.
-use mathlib.Core.Path.{_≡_, refl, sym, ap, _∙_, subst}
+use mathlib.Core.Path.{_≡_, refl, sym, _∙_, subst}
 use mathlib.Core.Logic.{_≢_}
 use mathlib.Core.Bool.{Bool, true, false, _&&_}
-use mathlib.Core.List.{List, _++_}
+use mathlib.Core.List.{List}
 use Prim.Native.Nat.{ℕ, _-_, _≤_, _<_}
 use native.Mathlib.Omega.{arith}
 use lib.Dec.{eqb, leb, ltb, leb→le}
 use lib.ListN.{length, take, drop, length-append, length-drop}
-use lib.Seq.{sets, take-all}
+use lib.Seq.{take-all}
 use Rattle.base.specs.Choice.{pick}
 use Rattle.base.specs.Lists.{joined, xorOf, countOf}
 use Rattle.base.specs.Refusals.{ringEmpty, ringTooLong, wrongImage, noRoom}
@@ -42,7 +42,8 @@ module _ (input : List ℕ) (envelope : Bool) (e : envelope ≡ isEnvelope input
       unfolding listing
       long-listing l = rw (← e, t, ← r, eqb-no (length ring) 0 some, ltb-yes longestRing (length ring) l)
 
-      pub ring-listing : length ring ≤ longestRing → (start : ℕ) → start ≡ startIn input → ringLines ring (trackIn input) start ≡ listing input
+      pub ring-listing : length ring ≤ longestRing → (start : ℕ) → start ≡ startIn input → ringLines ring (trackIn input) start ≡ listing
+          input
       unfolding listing
       ring-listing l start s = rw (← e, t, ← r, eqb-no (length ring) 0 some, ltb-no longestRing (length ring) l, s)
 
@@ -74,13 +75,19 @@ lines-short ring track start h =
     let found = countOf 1 (readStatuses ring track start) in
     let n = sectors-of track .1 in
     let few : found ≤ 21
-    = omega (arith, count-le 1 (readStatuses ring track start), length-tab (sectorsOf track) (λ j. readSector ring track start j .status)) in
+    = omega (
+      arith,
+      count-le 1 (readStatuses ring track start),
+      length-tab (sectorsOf track) (λ j. readSector ring track start
+          j .status),
+    ) in
     rw (length-append (headLine track found (sectorsOf track)) (joined (sectorsOf track) (λ j. lineOf j (readSector ring track start j))))
     (omega (
       arith,
       head-long track found (sectorsOf track) h few n,
       joined-short 17 (λ j. lineOf j (readSector ring track start j))
-          (λ j. if-found (eqb (readSector ring track start j .status) 1) j (xorOf (readSector ring track start j .payload))) (sectorsOf track),
+          (λ j. if-found (eqb (readSector ring track start j .status) 1) j (xorOf (readSector ring track start j .payload)))
+          (sectorsOf track),
     ))
 
 pub listing-short : (input : List ℕ) → trackIn input < 256 → length (listing input) ≤ 382

@@ -4,16 +4,15 @@
 --     few-found                    at most 21 sectors are found
 --     ring-put                     the first line and the sectors' lines are the ring's
 -- Assumes nothing.
-use mathlib.Core.Path.{_≡_, refl, sym, ap, ap₂, _∙_, subst}
+use mathlib.Core.Path.{_≡_, ap, ap₂, _∙_, subst}
 use mathlib.Core.Logic.{_⊎_, inl, inr}
-use mathlib.Core.Bool.{Bool}
-use mathlib.Core.List.{List, [], _∷_, _++_}
-use Prim.Native.Nat.{ℕ, zero, suc, _+_, _-_, _*_, _%_, _≤_, _<_}
+use mathlib.Core.List.{List, [], _++_}
+use Prim.Native.Nat.{ℕ, suc, _+_, _-_, _*_, _%_, _≤_, _<_}
 use native.Mathlib.Omega.{arith}
 use lib.Dec.{eqb}
-use lib.ListN.{length, getD, take, drop, List·getD-append}
+use lib.ListN.{length, drop, List·getD-append}
 use Rattle.base.specs.Choice.{pick}
-use Rattle.base.specs.Lists.{tab, joined, xorOf, countOf}
+use Rattle.base.specs.Lists.{joined, xorOf, countOf}
 use Rattle.base.proofs.Tests.{eqb-no, ltb-no}
 use Rattle.base.proofs.Lists.{length-tab, getD-tab}
 use Rattle.base.proofs.Stores.{joined-same, count-le}
@@ -22,11 +21,10 @@ use Rattle.geometry.specs.Zones.{sectorsOf}
 use Rattle.geometry.proofs.ZoneLaws.{sectors-of}
 use Rattle.gcr.proofs.DecodeLaws.{byteAt}
 use Rattle.ring.specs.Bit.{bits, bitAt}
-use Rattle.scan.specs.declared.SectorRecord.{SectorRecord}
 use Rattle.scan.specs.declared.TrackRead.{TrackRead}
 use Rattle.scan.specs.declared.TrackRead.the-variants.{Found, Refused as NotRead}
 use Rattle.scan.specs.Scan.{records}
-use Rattle.scan.specs.Reading.{Reading, missing, firstOf, readSector, readPayloads, readStatuses}
+use Rattle.scan.specs.Reading.{Reading, missing, readSector, readPayloads, readStatuses}
 use Rattle.scan.specs.Answers.{unlessRefused, roomToRead, trackRead, trackPayloads, trackStatuses}
 use Rattle.scan.proofs.VisitLaws.{visit-good}
 use Rattle.scan.proofs.ScanLaws.{Every, scan-every, few-records}
@@ -49,7 +47,8 @@ records-sized ring track start =
 pub reading-sized : (ring : List ℕ) (track start j : ℕ) → length (readSector ring track start j .payload) ≡ 256
 reading-sized ring track start j = go (first-cases Sized j (records ring track start) (records-sized ring track start))
   where
-    go : (readSector ring track start j ≡ missing) ⊎ Handed Sized j (readSector ring track start j) → length (readSector ring track start j .payload) ≡ 256
+    go : (readSector ring track start j ≡ missing) ⊎ Handed Sized j (readSector ring track start j) → length
+        (readSector ring track start j .payload) ≡ 256
     go (inl e) = ap (λ (y : Reading). length (y .payload)) e
     go (inr (r, s, q, e)) = ap (λ (y : Reading). length (y .payload)) e ∙ s
 
@@ -57,7 +56,8 @@ module _ (ring : List ℕ) (track start : ℕ) where
   -- ---- with room, a ring of 1 to 65,535 bytes is read
   module _ (payloads statuses : List ℕ) (h : 5376 ≤ length payloads) (k : 21 ≤ length statuses) (some : 0 < length ring)
       (small : length ring ≤ 65535) where
-    not-refused : {A : Type 0} (refuse : ℕ → A) (good : A) → unlessRefused (roomToRead track payloads statuses) ring track start refuse good ≡ good
+    not-refused : {A : Type 0} (refuse : ℕ → A) (good : A) → unlessRefused (roomToRead track payloads statuses) ring track start refuse
+        good ≡ good
     not-refused refuse good =
         let n = sectors-of track .1 in
         rw (
@@ -100,7 +100,8 @@ module _ (ring : List ℕ) (track start : ℕ) where
   -- ---- the lines by what reading leaves are those by the readings
   module _ (rest more : List ℕ) where
     line-is : (j : ℕ) → j < sectorsOf track
-        → lineAt (readStatuses ring track start ++ more) (readPayloads ring track start ++ rest) j ≡ lineOf j (readSector ring track start j)
+        → lineAt (readStatuses ring track start ++ more) (readPayloads ring track start ++ rest) j ≡ lineOf j
+        (readSector ring track start j)
     unfolding lineAt
     line-is j l =
         let status : ℕ → ℕ = λ i. readSector ring track start i .status in
@@ -126,6 +127,7 @@ module _ (ring : List ℕ) (track start : ℕ) where
         let f : headLine track n (sectorsOf track) ≡ headLine track (countOf 1 (readStatuses ring track start)) (sectorsOf track)
         = ap (λ (m : ℕ). headLine track m (sectorsOf track)) (found-is payloads statuses h k some small answer n e g) in
         let l : lines (sectorsOf track) ss ps ≡ joined (sectorsOf track) (λ j. lineOf j (readSector ring track start j))
-        = ap₂ (λ (a b : List ℕ). lines (sectorsOf track) a b) (s ∙ is-told payloads statuses h k some small) (p ∙ is-laid payloads statuses h k some small)
+        = ap₂ (λ (a b : List ℕ). lines (sectorsOf track) a b) (s ∙ is-told payloads statuses h k some small)
+        (p ∙ is-laid payloads statuses h k some small)
         ∙ lines-are (drop (256 * sectorsOf track) payloads) (drop (sectorsOf track) statuses) in
         subst (λ (t : List ℕ). Put out 0 t after behind) (ap₂ (λ (a b : List ℕ). a ++ b) f l) put

@@ -1,16 +1,15 @@
 -- The lines as they are put, piece by piece.
 -- Assumes nothing.
-use mathlib.Core.Path.{_≡_, refl, sym, ap, ap₂, _∙_, subst}
+use mathlib.Core.Path.{_≡_, refl, sym}
 use mathlib.Core.Logic.{_≢_}
 use mathlib.Core.Bool.{Bool, true, false}
-use mathlib.Core.List.{List, [], _∷_, _++_, append-assoc, append-nil}
-use Prim.Native.Nat.{ℕ, zero, suc, _+_, _*_, _^_, _≤_, _<_}
+use mathlib.Core.List.{List, [], _++_}
+use Prim.Native.Nat.{ℕ, _+_, _*_, _≤_, _<_}
 use native.Mathlib.Numerals.{add-one}
 use native.Mathlib.Nat.{add-zero}
 use native.Mathlib.Omega.{arith}
 use lib.Dec.{eqb}
 use lib.ListN.{length, getD, take, drop, length-append}
-use lib.Seq.{sets}
 use Rattle.base.specs.Choice.{pick}
 use Rattle.base.specs.Lists.{joined, xorOf}
 use Rattle.base.proofs.Tests.{eqb-yes, eqb-no}
@@ -38,7 +37,8 @@ module _ (out a b c d : List ℕ) (track found count i j k l : ℕ) where
       (put-more a b d (wordFound ++ decimal found) (wordOf ++ (decimal count ++ newline)) i j l q
       (put-more b c d (wordOf ++ decimal count) newline j k l r s))
 
-pub refused-put : (out a b : List ℕ) (n i j : ℕ) → Put out 0 (wordRefused ++ decimal n) a i → Put a i newline b j → Put out 0 (refusedLine n) b j
+pub refused-put : (out a b : List ℕ) (n i j : ℕ) → Put out 0 (wordRefused ++ decimal n) a i → Put a i newline b j → Put out 0
+    (refusedLine n) b j
 unfolding refusedLine
 refused-put out a b n i j p q = put-more out a b (wordRefused ++ decimal n) newline 0 i j p q
 

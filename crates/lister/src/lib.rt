@@ -17,9 +17,10 @@ pub enum Listed {
     Refused(u8),
 }
 
-// The longest listing, and the longest ring that is listed.
-const ROOM: usize = 382;
+// The longest listing: a first line of 25 bytes, and 17 for each of 21 sectors.
+pub const LONGEST_LISTING: usize = 382;
 
+// The longest ring that is listed.
 const MAX_LISTED: usize = 8192;
 
 // Does the input begin as it should?
@@ -114,7 +115,8 @@ fn put_track(out: &mut [u8], track: u8, found: usize, statuses: &[u8], payloads:
     requires { ⌜ 382 ≤ length (now out) ⌝ }
     requires { ⌜ (found ≤ 21) × (21 ≤ length (now statuses)) × (5376 ≤ length (now payloads)) ⌝ }
     ensures { λ r. ⌜ Put (now (out .entry)) 0
-        (headLine track found (sectorsOf track) ++ lines (sectorsOf track) (now (statuses .entry)) (now (payloads .entry))) (now (out .exit)) r ⌝ }
+        (headLine track found (sectorsOf track) ++ lines (sectorsOf track) (now (statuses .entry)) (now (payloads .entry)))
+        (now (out .exit)) r ⌝ }
 {
     let count = geometry::sectors_per_track(track);
     let at = put_head(out, track, found, count);
@@ -160,7 +162,7 @@ pub fn list_ring(input: &[u8], out: &mut [u8]) -> Listed
     ensures { λ r. ⌜ (r ≡ listed (now (input .entry)) (now (out .entry)))
         × (now (out .exit) ≡ outAfter (now (input .entry)) (now (out .entry))) ⌝ }
 {
-    if out.len() < ROOM {
+    if out.len() < LONGEST_LISTING {
         return Listed::Refused(base::NO_ROOM);
     }
     Listed::Written(put_listing(out, input))

@@ -5,24 +5,16 @@ use lib.Seq.{length-take-le}
 use Rattle.lister.proofs.Envelopes.{short-input, other-letters, by-version}
 use Rattle.lister.proofs.is_envelope.Statement.{statement}
 use Rattle.lister.proofs.is_envelope.Tie as tie
-use Rattle.lister.proofs.is_envelope.Reads as reads
-use Rattle.lister.proofs.is_envelope.Lts as lts
-use Rattle.base.proofs.read_word.Reads as read-word-reads
-use Rattle.base.proofs.same_bytes.Reads as same-bytes-reads
 
--- src/lib.rt:30:9
 returns : tie.Need-returns
 returns c = short-input (c .before .before .args .input .now) (omega arith)
 
--- src/lib.rt:32:26
 slice-aggregate-same-bytes : tie.Need-slice-aggregate-same-bytes
 slice-aggregate-same-bytes c = sym (length-take-le 3 (c .before .before .before .args .input .now) (omega arith))
 
--- src/lib.rt:32:39
 slice-aggregate-same-bytes-2 : tie.Need-slice-aggregate-same-bytes-2
 slice-aggregate-same-bytes-2 c = search needs
 
--- src/lib.rt:32:9
 same-bytes-requires : tie.Need-same-bytes-requires
 same-bytes-requires c κs = search needs
 
@@ -38,7 +30,8 @@ returns-2 c =
 returns-3 : tie.Need-returns-3
 returns-3 c =
     let s = c .before .same-bytes in
-    other-letters (c .before .before .before .before .before .before .args .input .now) (omega arith) (s .result) (s .ensures) (c .if2 .left)
+    other-letters (c .before .before .before .before .before .before .args .input .now) (omega arith) (s .result) (s .ensures)
+    (c .if2 .left)
 
 pub is-envelope-spec : {M : Type 1} → statement M
 is-envelope-spec =

@@ -8,9 +8,6 @@ use Rattle.lister.specs.Lines.{lines}
 use Rattle.lister.proofs.Putting.{lines-none, lines-more, lines-long}
 use Rattle.lister.proofs.put_sectors.Statement.{statement}
 use Rattle.lister.proofs.put_sectors.Tie as tie
-use Rattle.lister.proofs.put_sectors.Reads as reads
-use Rattle.lister.proofs.put_sectors.Lts as lts
-use Rattle.lister.proofs.put_sector.Reads as put-sector-reads
 
 abbrev Inv-loop : tie.InvT-loop
 Inv-loop out₀ at count statuses payloads behind₀ sector₀ out behind sector =
