@@ -1,0 +1,4 @@
+pub mod Envelopes
+pub mod Putting
+pub mod Found
+pub mod Answer

@@ -1,0 +1,3 @@
+pub mod Envelope
+pub mod Listing
+pub mod Lines
