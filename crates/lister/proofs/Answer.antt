@@ -24,6 +24,7 @@ use Rattle.text.specs.Put.{Put}
 use Rattle.lister.specs.Envelope.{isEnvelope, ringIn, trackIn, startIn, longestRing}
 use Rattle.lister.specs.Listing.{headLine, refusedLine, lineOf, ringLines, listing, listed, outAfter}
 use Rattle.lister.proofs.Putting.{head-long, refused-long, if-found}
+use Rattle.lister.specs.declared.Listed.{Listed}
 use Rattle.lister.specs.declared.Listed.the-variants.{Written, Refused}
 
 -- ---- the listing, by the tests of the input
@@ -114,3 +115,13 @@ module _ (input out : List ℕ) where
       let l = listing-short input b in
       let k : n ≡ length (listing input) = p .next ∙ omega arith in
       (rw (e, k), rw e (p .written ∙ sets-front (listing input) out (length (listing input)) refl (omega arith)))
+
+-- what a caller may count on: never more than 382 bytes are written
+pub written-short : (input out : List ℕ) → trackIn input < 256 → (answer : Listed) (n : ℕ) → answer ≡ listed input out → answer ≡ Written n
+    → n ≤ 382
+unfolding listed
+written-short input out h answer n e w = go (leb 382 (length out)) (sym w ∙ e)
+  where
+    go : (b : Bool) → Written n ≡ pick b (Written (length (listing input))) (Refused noRoom) → n ≤ 382
+    go true q = let k : n ≡ length (listing input) = cc in omega (arith, listing-short input h)
+    go false q = absurd (let z : _≡_ {A = ℕ} 0 1 = cc in omega arith)
