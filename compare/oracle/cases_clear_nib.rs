@@ -34,7 +34,8 @@ fn good(c: &mut Cases, n: u32) {
     for k in 0..10 * c.scale {
         again(c, n);
         let bits = [10, 40, 200, 1000][k as usize % 4];
-        c.flip(Ring::new(256, n - 256), bits);
+        // a ring has at most 65,535 bytes
+        c.flip(Ring::new(256, 65_535.min(n - 256)), bits);
         clear(c, n, NIB);
     }
 }

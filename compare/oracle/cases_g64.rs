@@ -151,7 +151,6 @@ fn overlaps(c: &mut Cases) {
 // behind it, at the end of the second ring, whose join lies just before the block.
 fn shared_block(c: &mut Cases, at: u32, first: (u8, u8), second: (u8, u8)) {
     let all = Ring::new(at, 900);
-    let (one, two) = (Ring::new(at + 2, 500), Ring::new(at + 72, 420));
     c.store(Buffer::Target, at, 900, 0x55);
     c.put(Buffer::Target, at, &500u16.to_le_bytes());
     c.put(Buffer::Target, at + 70, &420u16.to_le_bytes());
@@ -164,8 +163,6 @@ fn shared_block(c: &mut Cases, at: u32, first: (u8, u8), second: (u8, u8)) {
     c.true_header(all, 8 * 478, second.0, second.1);
     entry(c, 0, first.0, at);
     entry(c, 0, second.0, at + 70);
-    c.scan(one, first.0, 0);
-    c.scan(two, second.0, 0);
 }
 
 // Track 18 at a place, with its entry.
@@ -185,7 +182,6 @@ fn behind_the_tables(c: &mut Cases) {
     c.sector(ring, 8 * 700, 1, 0, 40, 72);
     entry(c, 0, 1, 10);
     let n = track_18(c, 7944);
-    c.scan(ring, 1, 0);
     clear(c, n, G64);
     clear(c, n, G64);
 }
@@ -204,7 +200,6 @@ fn among_the_speeds(c: &mut Cases) {
     c.true_header(ring, 8 * 600 - 80, 1, 0);
     entry(c, 0, 1, 148);
     let n = track_18(c, 0x10258);
-    c.scan(ring, 1, 0);
     clear(c, n, G64);
     clear(c, n, G64);
 }
@@ -231,8 +226,6 @@ fn over_the_size(c: &mut Cases) {
     c.sector(other, 5000, 2, 2, 40, 72);
     entry(c, 0, 2, 0x6000);
     let n = track_18(c, 0x6000 + 20_002);
-    c.scan(ring, 1, 0);
-    c.scan(other, 2, 0);
     clear(c, n, G64);
     clear(c, n, G64);
 }

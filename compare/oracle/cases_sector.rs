@@ -34,7 +34,6 @@ fn one_copy(c: &mut Cases) {
             both(c, ring, track, sector);
         }
         ask(c, ring, track + 1, 0);
-        c.scan_and_read(ring, track);
     }
 }
 
@@ -67,7 +66,6 @@ fn captures(c: &mut Cases, other: bool) {
         for sector in 0..3 {
             both(c, window, track, sector);
         }
-        c.scan(window, track, 0);
     }
 }
 
@@ -102,7 +100,6 @@ fn recorded_twice(c: &mut Cases) {
         c.new_block(7, [0, 0]);
         c.sector(ring, 0, 18, 1, ones, 30);
         both(c, ring, 18, 1);
-        c.scan(ring, 18, 0);
     }
 }
 

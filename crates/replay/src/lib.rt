@@ -48,7 +48,7 @@ fn set_all(part: &mut [u8], byte: u8)
 }
 
 // Row S.
-pub fn store(buf: &mut [u8], at: usize, n: usize, byte: u8)
+fn store(buf: &mut [u8], at: usize, n: usize, byte: u8)
     ensures { λ r. ⌜ now (buf .exit) ≡ stored at n byte (now (buf .entry)) ⌝ }
 {
     if buf.len() < at {
@@ -62,7 +62,7 @@ pub fn store(buf: &mut [u8], at: usize, n: usize, byte: u8)
 }
 
 // Row F.
-pub fn fill(buf: &mut [u8], at: usize, n: usize, seed: u32)
+fn fill(buf: &mut [u8], at: usize, n: usize, seed: u32)
     ensures { λ r. ⌜ now (buf .exit) ≡ filled at n seed (now (buf .entry)) ⌝ }
 {
     if buf.len() < at {
@@ -88,7 +88,7 @@ fn or_all(part: &mut [u8], seed: u32)
 }
 
 // Row O.
-pub fn or_fill(buf: &mut [u8], at: usize, n: usize, seed: u32)
+fn or_fill(buf: &mut [u8], at: usize, n: usize, seed: u32)
     ensures { λ r. ⌜ now (buf .exit) ≡ orFilled at n seed (now (buf .entry)) ⌝ }
 {
     if buf.len() < at {
@@ -118,7 +118,7 @@ fn eight_bytes(high: u32, low: u32) -> [u8; 8]
 }
 
 // Row P.
-pub fn write(buf: &mut [u8], at: usize, n: usize, high: u32, low: u32)
+fn write(buf: &mut [u8], at: usize, n: usize, high: u32, low: u32)
     ensures { λ r. ⌜ now (buf .exit) ≡ written at n high low (now (buf .entry)) ⌝ }
 {
     if 8 < n {
@@ -147,7 +147,7 @@ fn copy_up(buf: &mut [u8], at: usize, n: usize, from: usize)
 }
 
 // Row C.
-pub fn copy(buf: &mut [u8], at: usize, n: usize, from: usize)
+fn copy(buf: &mut [u8], at: usize, n: usize, from: usize)
     ensures { λ r. ⌜ now (buf .exit) ≡ copied at n from (now (buf .entry)) ⌝ }
 {
     if buf.len() < n {

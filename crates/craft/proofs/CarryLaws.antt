@@ -1,0 +1,72 @@
+-- Rows B and T, and both buffers after a row.
+-- Assumes nothing.
+use mathlib.Core.Path.{_≡_, _∙_}
+use mathlib.Core.Logic.{_≢_, ⊎-elim, inl, inr}
+use mathlib.Core.Bool.{true, false}
+use mathlib.Core.List.{List, [], _∷_, _++_}
+use Prim.Native.Nat.{ℕ, _+_, _-_, _≤_, _<_}
+use native.Mathlib.Omega.{arith}
+use types.Run.{OneOf}
+use lib.Dec.{eqb}
+use lib.ListN.{length, take, drop}
+use Rattle.base.specs.Choice.{pick}
+use Rattle.base.specs.Refusals.{noRoom}
+use Rattle.base.proofs.Tests.{leb-yes, leb-no, eqb-no}
+use Rattle.track.specs.Answers.{built}
+use Rattle.track.specs.declared.Built.{Built}
+use Rattle.track.specs.declared.Built.the-variants.{Refused}
+use Rattle.replay.specs.Rows.{changed}
+use Rattle.replay.specs.declared.Row.{Row}
+use Rattle.replay.proofs.PartLaws.{kept, done}
+use Rattle.craft.specs.Rings.{targetChanged, blockChecked}
+use Rattle.craft.specs.Tracks.{trackOf, payloadsOf, roomBuilt, targetBuilt, builtBy}
+use Rattle.craft.specs.Carried.{onRingLetter, targetAfter, sourceAfter}
+
+module _ (r : Row) (s xs : List ℕ) where
+  pub build-no : length xs < r .a + r .b → (Refused noRoom ≡ builtBy r s xs) × (xs ≡ targetBuilt r s xs)
+  unfolding builtBy
+  build-no h = (rw (leb-no (r .a + r .b) (length xs) h), kept (r .a) (r .b) (roomBuilt r s) xs h)
+
+  pub build-yes : r .a + r .b ≤ length xs → (answer : Built) (ys : List ℕ)
+      → answer ≡ built (trackOf r) (payloadsOf r s) (take (r .a + r .b - r .a) (drop (r .a) xs))
+      → ys ≡ roomBuilt r s (take (r .a + r .b - r .a) (drop (r .a) xs))
+      → (answer ≡ builtBy r s xs)
+      × (take (r .a) xs ++ (ys ++ drop (r .a + r .b - r .a) (drop (r .a) xs)) ≡ targetBuilt r s xs)
+  unfolding builtBy
+  build-yes h answer ys e w =
+      let n : r .a + r .b - r .a ≡ r .b = omega arith in
+      (e ∙ rw (leb-yes (r .a + r .b) (length xs) h, n), done (r .a) (r .b) (roomBuilt r s) xs h ys w)
+
+-- ---- by a row's letter
+is-ring-letter : (l : ℕ) → OneOf (71 ∷ 73 ∷ 88 ∷ 90 ∷ []) l → onRingLetter l ≡ true
+is-ring-letter l h =
+    ⊎-elim (λ e. rw e) (λ g. ⊎-elim (λ e. rw e) (λ k. ⊎-elim (λ e. rw e) (λ e. rw e) k) g) h
+
+no-ring-letter : (l : ℕ) → (OneOf (71 ∷ 73 ∷ 88 ∷ 90 ∷ []) l → ⊥) → onRingLetter l ≡ false
+no-ring-letter l h =
+    rw (
+      eqb-no l 90 (λ e. h (inr (inr (inr e)))),
+      eqb-no l 73 (λ e. h (inr (inl e))),
+      eqb-no l 88 (λ e. h (inr (inr (inl e)))),
+      eqb-no l 71 (λ e. h (inl e)),
+    )
+
+module _ (r : Row) (s t : List ℕ) where
+  pub after-ring : OneOf (71 ∷ 73 ∷ 88 ∷ 90 ∷ []) (r .letter) → (targetChanged r s t ≡ targetAfter r s t) × (s ≡ sourceAfter r s)
+  unfolding targetAfter sourceAfter
+  after-ring h = (rw (is-ring-letter (r .letter) h), rw (is-ring-letter (r .letter) h))
+
+  pub after-Q : r .letter ≡ 81 → (t ≡ targetAfter r s t) × (blockChecked (r .a) s ≡ sourceAfter r s)
+  unfolding targetAfter sourceAfter
+  after-Q e = (rw e, rw e)
+
+  pub after-T : r .letter ≡ 84 → (targetBuilt r s t ≡ targetAfter r s t) × (s ≡ sourceAfter r s)
+  unfolding targetAfter sourceAfter
+  after-T e = (rw e, rw e)
+
+  pub after-other : (OneOf (71 ∷ 73 ∷ 88 ∷ 90 ∷ []) (r .letter) → ⊥) → r .letter ≢ 81 → r .letter ≢ 84
+      → (pick (eqb (r .f) 0) (changed r t) t ≡ targetAfter r s t) × (pick (eqb (r .f) 0) s (changed r s) ≡ sourceAfter r s)
+  unfolding targetAfter sourceAfter
+  after-other h q u =
+      let n = no-ring-letter (r .letter) h in
+      (rw (n, eqb-no (r .letter) 81 q, eqb-no (r .letter) 84 u), rw (n, eqb-no (r .letter) 81 q, eqb-no (r .letter) 84 u))
