@@ -1,9 +1,9 @@
-use Rattle.nib.proofs.Spans.{ranks-by-fraction, ranks-by-middle, ranks-by-size}
+use Rattle.orbit.proofs.Spans.{ranks-by-fraction, ranks-by-middle, ranks-by-size}
 use Rattle.base.proofs.Products.{small}
 use native.Mathlib.Omega.{arith}
 use borrow.Author.Needs.{needs}
-use Rattle.nib.proofs.orbit.is_better.Statement.{statement}
-use Rattle.nib.proofs.orbit.is_better.Tie as tie
+use Rattle.orbit.proofs.is_better.Statement.{statement}
+use Rattle.orbit.proofs.is_better.Tie as tie
 
 mul-mine : tie.Need-mul-mine
 mul-mine c =

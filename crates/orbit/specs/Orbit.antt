@@ -5,7 +5,7 @@ use mathlib.Core.List.{List, [], _∷_}
 use lib.Dec.{eqb, ltb}
 use lib.ListN.{length, getD, take}
 use Rattle.base.specs.Choice.{pick}
-use Rattle.nib.specs.declared.Estimate.{Estimate}
+use Rattle.orbit.specs.declared.Estimate.{Estimate}
 
 -- the shortest and the longest span of a zone, and the one in the middle; zones are counted modulo 4
 unfoldable pub lowest : ℕ → ℕ

@@ -1,12 +1,12 @@
-use Rattle.nib.proofs.Spans.{best-start, best-changes, best-stays}
-use Rattle.nib.specs.Orbit.{bestOf}
+use Rattle.orbit.proofs.Spans.{best-start, best-changes, best-stays}
+use Rattle.orbit.specs.Orbit.{bestOf}
 use borrow.Author.Needs.{needs}
 use Prim.Native.Nat.{ℕ, _-_, _≤_}
 use mathlib.Core.Path.{_≡_, refl, sym, ap, _∙_}
 use native.Mathlib.Omega.{arith}
 use denote.Ref.{now}
-use Rattle.nib.proofs.orbit.best_span.Statement.{statement}
-use Rattle.nib.proofs.orbit.best_span.Tie as tie
+use Rattle.orbit.proofs.best_span.Statement.{statement}
+use Rattle.orbit.proofs.best_span.Tie as tie
 
 abbrev Inv-loop : tie.InvT-loop
 Inv-loop window middle low high best₀ span₀ best span =
@@ -15,13 +15,13 @@ Inv-loop window middle low high best₀ span₀ best span =
 abbrev μ-loop : tie.MeasureT-loop
 μ-loop window middle low high best₀ span₀ best span = high - span
 
-estimate-requires : tie.Need-estimate-requires Inv-loop μ-loop
-estimate-requires c κs = search needs
+measure-requires : tie.Need-measure-requires Inv-loop μ-loop
+measure-requires c κs = search needs
 
 loop-holds : tie.Need-loop-holds Inv-loop μ-loop
 loop-holds c =
     let s = c .before .before in
-    let g = c .estimate in (
+    let g = c .measure in (
       omega arith,
       omega arith,
       g .ensures .1,
@@ -32,12 +32,12 @@ loop-holds c =
 add-span : tie.Need-add-span Inv-loop μ-loop
 add-span c = search needs
 
-estimate-requires-2 : tie.Need-estimate-requires-2 Inv-loop μ-loop
-estimate-requires-2 c κs = search needs
+measure-requires-2 : tie.Need-measure-requires-2 Inv-loop μ-loop
+measure-requires-2 c κs = search needs
 
 is-better-requires : tie.Need-is-better-requires Inv-loop μ-loop
 is-better-requires c κs =
-    let g = c .estimate2 in
+    let g = c .measure2 in
     let l = c .before .before in
     (g .ensures .1, g .ensures .2, l .loop .inv .2, l .loop .inv .3)
 
@@ -46,7 +46,7 @@ loop-less c = search needs
 
 loop-again : tie.Need-loop-again Inv-loop μ-loop
 loop-again c =
-    let g = c .before .before .estimate2 in
+    let g = c .before .before .measure2 in
     let l = c .before .before .before .before in
     let a = l .before .before .before .args in (
       omega arith,
@@ -63,7 +63,7 @@ loop-less-2 c = search needs
 
 loop-again-2 : tie.Need-loop-again-2 Inv-loop μ-loop
 loop-again-2 c =
-    let g = c .before .before .estimate2 in
+    let g = c .before .before .measure2 in
     let l = c .before .before .before .before in
     let a = l .before .before .before .args in (
       omega arith,
@@ -88,10 +88,10 @@ best-span-spec =
     (tie.spec
     Inv-loop
     μ-loop
-    estimate-requires
+    measure-requires
     loop-holds
     add-span
-    estimate-requires-2
+    measure-requires-2
     is-better-requires
     loop-less
     loop-again

@@ -19,10 +19,10 @@ use borrow.Author.Tests.{eq-eqb, ne-eqb, lt-ltb, eqb-true, ltb-true}
 use Rattle.base.specs.Choice.{pick}
 use Rattle.base.proofs.Tests.{pick-case}
 use Rattle.base.proofs.Products.{le-le, lt-le, le-lt}
-use Rattle.nib.specs.Orbit.{lowest, highest, middle, observations, agreements, estimate, apart}
-use Rattle.nib.specs.Orbit.{share, better, bestOf, best, chosen, recovered}
-use Rattle.nib.specs.declared.Estimate.{Estimate}
-use Rattle.nib.proofs.Spans.{limits}
+use Rattle.orbit.specs.Orbit.{lowest, highest, middle, observations, agreements, estimate, apart}
+use Rattle.orbit.specs.Orbit.{share, better, bestOf, best, chosen, recovered}
+use Rattle.orbit.specs.declared.Estimate.{Estimate}
+use Rattle.orbit.proofs.Spans.{limits}
 
 -- ---- the order in words: span s at distance d, with a of o, before span t at distance e, with b of p
 Before : ℕ → ℕ → ℕ → ℕ → ℕ → ℕ → ℕ → ℕ → Type 0

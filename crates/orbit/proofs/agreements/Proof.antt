@@ -1,13 +1,13 @@
-use Rattle.nib.proofs.Spans.{agree-none, agree-yes, agree-no, agrees}
-use Rattle.nib.specs.Orbit.{agreeing}
+use Rattle.orbit.proofs.Spans.{agree-none, agree-yes, agree-no, agrees}
+use Rattle.orbit.specs.Orbit.{agreeing}
 use borrow.Author.Needs.{needs}
 use Prim.Native.Nat.{_-_, _≤_}
 use mathlib.Core.Path.{_≡_, _∙_}
 use mathlib.Core.Logic.{⊎-elim}
 use native.Mathlib.Omega.{arith}
 use denote.Ref.{now}
-use Rattle.nib.proofs.orbit.agreements.Statement.{statement}
-use Rattle.nib.proofs.orbit.agreements.Tie as tie
+use Rattle.orbit.proofs.agreements.Statement.{statement}
+use Rattle.orbit.proofs.agreements.Tie as tie
 
 abbrev Inv-loop : tie.InvT-loop
 Inv-loop window span n count₀ i₀ count i = (i ≤ n) × (count ≤ i) × (count ≡ agreeing window span i)

@@ -10,8 +10,8 @@ use lib.Dec.{ltb, lit<, lit≤}
 use native.Mathlib.Nat.{mod-lt}
 use lib.ListN.{length, getD}
 use borrow.Author.Tests.{eq-eqb, ne-eqb, lt-ltb, le-ltb}
-use Rattle.nib.specs.Orbit.{lowest, highest, middle, agreeing, agreements, estimate, apart, share, better, bestOf, best, chosen}
-use Rattle.nib.specs.declared.Estimate.{Estimate}
+use Rattle.orbit.specs.Orbit.{lowest, highest, middle, agreeing, agreements, estimate, apart, share, better, bestOf, best, chosen}
+use Rattle.orbit.specs.declared.Estimate.{Estimate}
 
 -- ---- counting agreements
 

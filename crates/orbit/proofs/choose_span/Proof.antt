@@ -1,12 +1,12 @@
-use Rattle.nib.proofs.Spans.{limits, choose-middle, choose-best}
-use Rattle.nib.proofs.Best.{chosen-within}
-use Rattle.nib.specs.Orbit.{lowest, highest, middle}
+use Rattle.orbit.proofs.Spans.{limits, choose-middle, choose-best}
+use Rattle.orbit.proofs.Best.{chosen-within}
+use Rattle.orbit.specs.Orbit.{lowest, highest, middle}
 use mathlib.Core.Path.{refl}
 use native.Mathlib.Omega.{arith}
 use denote.Ref.{now}
 use borrow.Author.Needs.{needs}
-use Rattle.nib.proofs.orbit.choose_span.Statement.{statement}
-use Rattle.nib.proofs.orbit.choose_span.Tie as tie
+use Rattle.orbit.proofs.choose_span.Statement.{statement}
+use Rattle.orbit.proofs.choose_span.Tie as tie
 
 cast-z : tie.Need-cast-z
 cast-z c = search needs

@@ -14,11 +14,11 @@ use lib.Dec.{eqb, ltb, leb}
 use lib.ListN.{length}
 use borrow.Author.Tests.{eq-eqb, ne-eqb, lt-ltb, le-ltb, le-leb, lt-leb}
 use Rattle.base.specs.Choice.{pick}
-use Rattle.nib.specs.Orbit.{lowest, highest, middle, observations, agreements, estimate, apart}
-use Rattle.nib.specs.Orbit.{share, better, winner, bestOf, best, chosen}
-use Rattle.nib.specs.declared.Estimate.{Estimate}
-use Rattle.nib.proofs.Spans.{limits}
-use Rattle.nib.proofs.Best.{better-larger, better-fraction, best-in, best-told}
+use Rattle.orbit.specs.Orbit.{lowest, highest, middle, observations, agreements, estimate, apart}
+use Rattle.orbit.specs.Orbit.{share, better, winner, bestOf, best, chosen}
+use Rattle.orbit.specs.declared.Estimate.{Estimate}
+use Rattle.orbit.proofs.Spans.{limits}
+use Rattle.orbit.proofs.Best.{better-larger, better-fraction, best-in, best-told}
 
 -- a takes the place of e
 abbrev overtakes : ℕ → Estimate → Estimate → Bool

@@ -1,9 +1,9 @@
-use Rattle.nib.proofs.Spans.{estimate-is}
+use Rattle.orbit.proofs.Spans.{estimate-is}
 use native.Mathlib.Omega.{arith}
 use denote.Ref.{now}
 use borrow.Author.Needs.{needs}
-use Rattle.nib.proofs.orbit.estimate.Statement.{statement}
-use Rattle.nib.proofs.orbit.estimate.Tie as tie
+use Rattle.orbit.proofs.measure.Statement.{statement}
+use Rattle.orbit.proofs.measure.Tie as tie
 
 agreements-requires : tie.Need-agreements-requires
 agreements-requires c κs = search needs
@@ -19,5 +19,5 @@ returns c =
       omega arith,
     )
 
-pub estimate-spec : {M : Type 1} → statement M
-estimate-spec = tie.close (tie.spec agreements-requires sub-t4 returns)
+pub measure-spec : {M : Type 1} → statement M
+measure-spec = tie.close (tie.spec agreements-requires sub-t4 returns)

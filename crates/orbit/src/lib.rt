@@ -1,9 +1,8 @@
 // The orbit of a capture: the first bytes of a window, as many as one turn of the disk took.
-use super::Estimate;
 ghost use mathlib.Core.Path.{_≡_};
 ghost use Prim.Native.Nat.{_-_, _≤_};
 ghost use lib.ListN.{length};
-ghost use Rattle.nib.specs.Orbit.{
+ghost use Rattle.orbit.specs.Orbit.{
   agreements as agreementsOf,
   estimate as estimateOf,
   apart as apartOf,
@@ -12,6 +11,13 @@ ghost use Rattle.nib.specs.Orbit.{
   chosen,
   recovered,
 };
+
+// A span, its agreements and its observations.
+pub struct Estimate {
+    pub span: usize,
+    pub agreements: usize,
+    pub observations: usize,
+}
 
 const LOWEST: [usize; 4] = [6183, 6598, 7073, 7616];
 
@@ -37,7 +43,7 @@ fn agreements(window: &[u8], span: usize) -> usize
 }
 
 // What a window says of a span.
-fn estimate(window: &[u8], span: usize) -> Estimate
+fn measure(window: &[u8], span: usize) -> Estimate
     requires { ⌜ (length (now window) ≡ 8192) × (span ≤ 8192) ⌝ }
     ensures { λ r. ⌜ (r ≡ estimateOf (now (window .entry)) span) × (r .agreements ≤ 8192) × (r .observations ≤ 8192) ⌝ }
 {
@@ -78,11 +84,11 @@ fn best_span(window: &[u8], middle: usize, low: usize, high: usize) -> Estimate
     requires { ⌜ (length (now window) ≡ 8192) × (low ≤ high) × (high ≤ 8192) ⌝ }
     ensures { λ r. ⌜ (r ≡ bestOf (now (window .entry)) middle low (high - low)) × (r .agreements ≤ 8192) ⌝ }
 {
-    let mut best = estimate(window, low);
+    let mut best = measure(window, low);
     let mut span = low;
     while span < high {
         span += 1;
-        let next = estimate(window, span);
+        let next = measure(window, span);
         if is_better(middle, next, best) {
             best = next;
         }
