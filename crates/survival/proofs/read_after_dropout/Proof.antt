@@ -96,8 +96,10 @@ returns-5 : tie.Need-returns-5
 returns-5 c =
     let a = c .before .before .before .before .before .before .decode-track-from in
     let f = c .before .before .before .before .before .before .before .before .before .before .before .before .force-zero in
-    let b = c .before .before .before .before .before .before .before .before .before .before .before .before .before .before .before .before .build-track-with-errors in
-    let y = c .before .before .before .before .before .before .before .before .before .before .before .before .before .before .before .before .before .before .before in
+    let b = c .before .before .before .before .before .before .before .before .before .before .before .before .before .before .before
+    .before .build-track-with-errors in
+    let y = c .before .before .before .before .before .before .before .before .before .before .before .before .before .before .before
+    .before .before .before .before in
     let z = y .before .before .before in
     let k = z .before .track-capacity .ensures in
     let m = y .before .before .sectors-per-track .ensures in
