@@ -1,0 +1,37 @@
+use mathlib.Core.Path.{ap, _∙_}
+use Rattle.fielbmaru.specs.Numbers.{trackNumber, foundAfter}
+use borrow.Author.Needs.{needs}
+use Rattle.fielbmaru.proofs.fielbmaru_decode_track.Statement.{statement}
+use Rattle.fielbmaru.proofs.fielbmaru_decode_track.Tie as tie
+
+-- src/lib.rt:123:9
+decode-track-from-requires : tie.Need-decode-track-from-requires
+decode-track-from-requires c κs = search needs
+
+-- src/lib.rt:124:5
+tell-found-requires : tie.Need-tell-found-requires
+tell-found-requires c κs = search needs
+
+-- src/lib.rt:108:1
+same-length : tie.Need-same-length
+same-length c = search needs
+
+-- src/lib.rt:108:1
+same-length-2 : tie.Need-same-length-2
+same-length-2 c = search needs
+
+-- src/lib.rt:108:1
+returns : tie.Need-returns
+returns c =
+    let k = c .before .before .before .before .before .before in (
+      (
+        c .tell-found .ensures .0 ∙ ap trackNumber (k .decode-track-from .ensures .0),
+        c .tell-found .ensures .1 ∙ ap (foundAfter _) (k .decode-track-from .ensures .0),
+      ),
+      (k .decode-track-from .ensures .1, k .decode-track-from .ensures .2),
+    )
+
+pub fielbmaru-decode-track-spec : {M : Type 1} → statement M
+fielbmaru-decode-track-spec =
+    tie.close
+    (tie.spec decode-track-from-requires tell-found-requires same-length same-length-2 returns)

@@ -1,0 +1,17 @@
+use mathlib.Core.Path.{ap}
+use lib.ListN.{length}
+use borrow.Author.Needs.{needs}
+use Rattle.fielbmaru.proofs.fielbmaru_orbit.Statement.{statement}
+use Rattle.fielbmaru.proofs.fielbmaru_orbit.Tie as tie
+
+-- src/lib.rt:188:9
+recover-orbit-requires : tie.Need-recover-orbit-requires
+recover-orbit-requires c κs = search needs
+
+-- src/lib.rt:184:1
+returns : tie.Need-returns
+returns c =
+    ap length (c .recover-orbit .ensures)
+
+pub fielbmaru-orbit-spec : {M : Type 1} → statement M
+fielbmaru-orbit-spec = tie.close (tie.spec recover-orbit-requires returns)

@@ -1,0 +1,30 @@
+use mathlib.Core.Path.{ap, _∙_}
+use Rattle.fielbmaru.specs.Numbers.{replacedNumber}
+use borrow.Author.Needs.{needs}
+use Rattle.fielbmaru.proofs.fielbmaru_replace_unique.Statement.{statement}
+use Rattle.fielbmaru.proofs.fielbmaru_replace_unique.Tie as tie
+
+-- src/lib.rt:177:24
+replace-sector-data-unique-requires : tie.Need-replace-sector-data-unique-requires
+replace-sector-data-unique-requires c κs = search needs
+
+-- src/lib.rt:177:5
+number-of-replaced-requires : tie.Need-number-of-replaced-requires
+number-of-replaced-requires c κs = search needs
+
+-- src/lib.rt:172:1
+same-length : tie.Need-same-length
+same-length c = search needs
+
+-- src/lib.rt:172:1
+returns : tie.Need-returns
+returns c =
+    let k = c .before .before .before in (
+      c .number-of-replaced .ensures ∙ ap replacedNumber (k .replace-sector-data-unique .ensures .0),
+      k .replace-sector-data-unique .ensures .1,
+    )
+
+pub fielbmaru-replace-unique-spec : {M : Type 1} → statement M
+fielbmaru-replace-unique-spec =
+    tie.close
+    (tie.spec replace-sector-data-unique-requires number-of-replaced-requires same-length returns)

@@ -1,0 +1,37 @@
+use mathlib.Core.Path.{ap, _∙_}
+use Rattle.fielbmaru.specs.Numbers.{scannedNumber, countAfter}
+use borrow.Author.Needs.{needs}
+use Rattle.fielbmaru.proofs.fielbmaru_scan.Statement.{statement}
+use Rattle.fielbmaru.proofs.fielbmaru_scan.Tie as tie
+
+-- src/lib.rt:90:9
+scan-sector-records-requires : tie.Need-scan-sector-records-requires
+scan-sector-records-requires c κs = search needs
+
+-- src/lib.rt:91:5
+tell-scanned-requires : tie.Need-tell-scanned-requires
+tell-scanned-requires c κs = search needs
+
+-- src/lib.rt:75:1
+same-length : tie.Need-same-length
+same-length c = search needs
+
+-- src/lib.rt:75:1
+same-length-2 : tie.Need-same-length-2
+same-length-2 c = search needs
+
+-- src/lib.rt:75:1
+returns : tie.Need-returns
+returns c =
+    let k = c .before .before .before .before .before .before in (
+      (
+        c .tell-scanned .ensures .0 ∙ ap scannedNumber (k .scan-sector-records .ensures .0),
+        c .tell-scanned .ensures .1 ∙ ap (countAfter _) (k .scan-sector-records .ensures .0),
+      ),
+      (k .scan-sector-records .ensures .1, k .scan-sector-records .ensures .2),
+    )
+
+pub fielbmaru-scan-spec : {M : Type 1} → statement M
+fielbmaru-scan-spec =
+    tie.close
+    (tie.spec scan-sector-records-requires tell-scanned-requires same-length same-length-2 returns)
