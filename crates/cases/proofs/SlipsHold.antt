@@ -16,22 +16,9 @@ use Rattle.scan.specs.declared.SyncEnd.the-variants.{At, Nothing}
 use Rattle.scan.specs.Sync.{syncFrom, syncEnd}
 use Rattle.scan.specs.Scan.{nextSync}
 use Rattle.scan.specs.Visit.{DataFound, HeaderFound, TrueHeader, BadHeader, NoHeader, FalseHeader, byHeader}
-use Rattle.scan.proofs.SyncLaws.{at-hit, at-reset, at-one}
+use Rattle.scan.proofs.SyncLaws.{at-hit, at-reset, passed}
 use Rattle.scan.proofs.SameBits.{sync-same}
 use Rattle.cases.specs.Slips.{Ones, Slips}
-
--- a search passes n ones, and counts them
-passed : (x : ℕ → ℕ) (n m k p q c d : ℕ) → n + m ≡ k → p + n ≡ q → c + n ≡ d → Ones x p n → syncFrom x k p c ≡ syncFrom x m q d
-passed x zero m k p q c d e f g o =
-    let e′ : m ≡ k = omega arith in
-    let f′ : p ≡ q = omega arith in
-    let g′ : c ≡ d = omega arith in
-    cc
-passed x (suc n) m zero p q c d e f g o = absurd (omega arith)
-passed x (suc n) m (suc k) p q c d e f g o =
-    at-one x c k p (subst (λ (r : ℕ). x r ≢ 0) (omega arith) (o 0 (omega arith)))
-    ∙ passed x n m k (p + 1) q (c + 1) d (omega arith) (omega arith) (omega arith)
-    (λ i l. subst (λ (r : ℕ). x r ≢ 0) (omega arith) (o (suc i) (omega arith)))
 
 -- the search of a scan at its last bit: seventeen places, and the first of them is a zero
 at-last : (x : ℕ → ℕ) (last : ℕ) → x last ≡ 0 → nextSync x (last + 1) last ≡ syncFrom x 16 (last + 1) 0

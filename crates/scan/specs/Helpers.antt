@@ -1,12 +1,13 @@
 -- What the helpers inside this crate answer and leave.
-use Prim.Native.Nat.{ℕ, _*_}
-use mathlib.Core.Bool.{Bool, true}
+use Prim.Native.Nat.{ℕ, _*_, _%_}
+use mathlib.Core.Bool.{Bool, true, _&&_}
 use mathlib.Core.Path.{_≡_}
 use mathlib.Core.List.{List, _++_}
-use lib.Dec.{eqb}
+use lib.Dec.{eqb, leb}
 use lib.ListN.{length, getD, set, drop, replicate}
 use lib.Seq.{sets}
 use Rattle.base.specs.Choice.{pick}
+use Rattle.base.specs.Bits.{gather}
 use Rattle.base.specs.Lists.{countOf}
 use Rattle.geometry.specs.Zones.{sectorsOf}
 use Rattle.gcr.specs.Symbols.{Bytes}
@@ -14,6 +15,7 @@ use Rattle.gcr.specs.Places.{decodeAt}
 use Rattle.blocks.specs.Answers.{unlessIllegal, isReadable}
 use Rattle.ring.specs.Bit.{bitAt}
 use Rattle.ring.specs.Run.{readBytes}
+use Rattle.scan.specs.declared.Chunk.{Chunk}
 use Rattle.scan.specs.declared.HeaderAt.{HeaderAt}
 use Rattle.scan.specs.declared.DataAt.{DataAt}
 use Rattle.scan.specs.declared.DataBlock.{DataBlock}
@@ -65,3 +67,10 @@ pub record ReadInto (ring : List ℕ) (track start : ℕ) (payloads statuses pay
   pub count : r ≡ countOf 1 (readStatuses ring track start)
   pub laid : payloadsAfter ≡ readPayloads ring track start ++ drop (256 * sectorsOf track) payloads
   pub told : statusesAfter ≡ readStatuses ring track start ++ drop (sectorsOf track) statuses
+
+-- the next bits of a search with so many places left: a whole byte where one begins, else one bit, whose byte is eight like it
+abbrev pub oneBit : ℕ → Chunk
+oneBit bit = record { width = 1; bits = 255 * bit }
+
+abbrev pub chunkAt : (ℕ → ℕ) → ℕ → ℕ → Chunk
+chunkAt x p left = pick (eqb (p % 8) 0 && leb 8 left) (record { width = 8; bits = gather x p 8 }) (oneBit (x p))
