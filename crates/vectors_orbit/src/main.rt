@@ -4,7 +4,7 @@ use report::Input;
 
 fn span(target: &[u8], row: Row) {
     let window = craft::part(target, row.a as usize, row.b as usize);
-    let ring = nib::orbit::recover_orbit(window, (row.c % 256) as u8);
+    let ring = orbit::recover_orbit(window, (row.c % 256) as u8);
     report::words(b"span");
     report::number(ring.len() as u64);
     report::end_line();
