@@ -15,10 +15,10 @@ fn write(line: &mut [u8], at: usize) {
 fn tell(line: &mut [u8], answer: Outcome) -> usize {
     match answer {
         Outcome::Cleared { free, changed } => {
-            let at = lines::words(line, 0, b"free");
-            let behind = lines::number(line, at, free as u64);
-            let end = lines::words(line, behind, b" changed");
-            lines::number(line, end, changed as u64)
+            let mut at = lines::words(line, 0, b"free");
+            at = lines::number(line, at, free as u64);
+            at = lines::words(line, at, b" changed");
+            lines::number(line, at, changed as u64)
         }
         Outcome::Refused(n) => lines::refused(line, 0, n),
     }
