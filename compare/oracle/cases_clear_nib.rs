@@ -55,6 +55,18 @@ fn differing(c: &mut Cases, n: u32) {
     }
 }
 
+// The zone is the track's own, so that the orbit is the first turn. Sector 0 is free, and its second copy lies behind
+// the orbit, in the window: both are cleared.
+fn behind_the_orbit(c: &mut Cases) {
+    c.heading("slip: cleared in the window, not in the orbit");
+    for (track, zone) in [(2, 3), (17, 3), (19, 2), (25, 1), (31, 0)] {
+        let n = image(c, 0, &[18, track]);
+        c.put(Buffer::Target, 16, &[36, 2, 2 * track, zone]);
+        clear(c, n, NIB);
+        clear(c, n, NIB);
+    }
+}
+
 fn refusals(c: &mut Cases, n: u32) {
     c.heading("length and signature");
     again(c, n);
@@ -101,6 +113,7 @@ pub fn all(c: &mut Cases) {
     let n = image(c, KEPT, &TRACKS);
     good(c, n);
     differing(c, n);
+    behind_the_orbit(c);
     refusals(c, n);
     links(c);
     bitmaps(c);

@@ -1,5 +1,6 @@
 // Scans and reads: built tracks from many bits, with each code, damaged; random rings; pieces put together; the limits.
 use crate::cases::{Buffer, Cases, Ring, ZONE_TRACKS};
+use crate::cases_slips;
 
 fn starts(c: &mut Cases) {
     c.heading("built tracks from many bits");
@@ -146,22 +147,6 @@ fn longest(c: &mut Cases) {
     }
 }
 
-// A ring that begins with ones and then a header: recorded twice with 10 to 15 ones, once with 16.
-fn ones_at_the_join(c: &mut Cases) {
-    c.heading("8 to 18 ones at the join");
-    for ones in 8..=18 {
-        let ring = Ring::new(0, 400);
-        c.store(Buffer::Target, 0, 400, 0x55);
-        c.zeros(ring, ring.bits() - 1, 1);
-        c.new_block(7, [0, 0]);
-        c.sector(ring, 0, 18, 1, ones, 30);
-        c.scan(ring, 18, 0);
-        c.scan(ring, 18, 1);
-        c.scan(ring, 18, ring.bits() - 1);
-        c.read(ring, 18, 0);
-    }
-}
-
 // The data search covers 768 bits from 80 behind the header's place.
 fn far_data(c: &mut Cases) {
     c.heading("how far off the data may be");
@@ -216,8 +201,8 @@ pub fn all(c: &mut Cases) {
     random_rings(c);
     pieces(c);
     longest(c);
-    ones_at_the_join(c);
     far_data(c);
     header_for_data(c);
     refusals(c);
+    cases_slips::all(c);
 }

@@ -91,8 +91,9 @@ fn copies(c: &mut Cases) {
     }
 }
 
+// Recorded twice, a sector is refused by the unique rule, and rewritten by the consistent one.
 fn recorded_twice(c: &mut Cases) {
-    c.heading("8 to 18 ones at the join");
+    c.heading("slip: 10 to 15 ones at the join refuse 12, 16 not");
     for ones in 8..=18 {
         let ring = Ring::new(0, 400);
         c.store(Buffer::Target, 0, 400, 0x55);

@@ -13,6 +13,7 @@ mod cases_g64;
 mod cases_nib;
 mod cases_scan;
 mod cases_sector;
+mod cases_slips;
 mod draw;
 mod groups;
 mod machine;

@@ -1,6 +1,3 @@
-pub mod Spans
-pub mod Best
-pub mod Original
 pub mod Cataloguing
 pub mod Slotting
 pub mod Longer

@@ -8,7 +8,7 @@ use native.Mathlib.Omega.{arith}
 use lib.ListN.{length, getD, take, drop, length-append, length-drop, List·getD-append}
 use lib.Seq.{drop-append-le, take-append-le}
 use borrow.Author.Tests.{le-leb}
-use Rattle.nib.specs.Orbit.{chosen, recovered}
+use Rattle.orbit.specs.Orbit.{chosen, recovered}
 use Rattle.nib.specs.Catalogue.{isNib, codeAt, zoneAt, windowStart, windowAt, pairsFrom, pairs}
 use Rattle.nib.specs.Catalogue.{among, anyFaulty, catalogueRight, catalogueOf, placeOf}
 use Rattle.nib.specs.Slots.{entryOf, ringBy, ringOf, zoneBy, zoneOf, slotBy, slotOf}

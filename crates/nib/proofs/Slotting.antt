@@ -12,7 +12,7 @@ use lib.Seq.{take-take, length-take-le}
 use borrow.Author.Tests.{eq-eqb, lt-ltb, le-ltb}
 use Rattle.base.specs.Choice.{pick}
 use Rattle.base.specs.Refusals.{wrongEntries}
-use Rattle.nib.specs.Orbit.{chosen, recovered}
+use Rattle.orbit.specs.Orbit.{chosen, recovered}
 use Rattle.nib.specs.Catalogue.{catalogueOf, placeOf, zoneAt, windowAt, windowStart}
 use Rattle.nib.specs.Slots.{entryIn, entryOf, ringOf, zoneOf, slotOf}
 use Rattle.nib.specs.declared.Pairs.{Pairs}
@@ -21,8 +21,8 @@ use Rattle.nib.specs.declared.Entry.{Entry}
 use Rattle.nib.specs.declared.Entry.the-variants.{At, Absent, Refused}
 use Rattle.nib.specs.declared.Zone.the-variants.{Is, Refused as NoZone}
 use Rattle.nib.specs.declared.NibSlot.the-variants.{Ring, Empty, Refused as NoSlot}
-use Rattle.nib.proofs.Spans.{limits}
-use Rattle.nib.proofs.Best.{chosen-within}
+use Rattle.orbit.proofs.Spans.{limits}
+use Rattle.orbit.proofs.Best.{chosen-within}
 use Rattle.nib.proofs.Cataloguing.{counted, place-in}
 
 -- ---- the pair of a slot

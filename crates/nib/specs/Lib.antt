@@ -1,4 +1,3 @@
-pub mod Orbit
 pub mod Catalogue
 pub mod Slots
 pub mod Encoding

@@ -4,7 +4,7 @@ use mathlib.Core.List.{List, []}
 use lib.Dec.{ltb}
 use Rattle.base.specs.Choice.{pick}
 use Rattle.base.specs.Refusals.{wrongEntries}
-use Rattle.nib.specs.Orbit.{chosen, recovered}
+use Rattle.orbit.specs.Orbit.{chosen, recovered}
 use Rattle.nib.specs.Catalogue.{catalogueOf, placeOf, zoneAt, windowAt, windowStart}
 use Rattle.nib.specs.declared.Pairs.{Pairs}
 use Rattle.nib.specs.declared.Pairs.the-variants.{Count, Refused as NoCatalogue}

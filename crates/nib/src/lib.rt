@@ -1,18 +1,9 @@
-// NIB files: the ring and the zone of a slot. `orbit` finds one turn of the disk in a capture, `catalogue` reads the list of the
-// captures, `encode` makes a file.
+// NIB files: the ring and the zone of a slot. `catalogue` reads the list of the captures, `encode` makes a file.
 pub mod catalogue;
 pub mod encode;
-pub mod orbit;
 
 ghost use mathlib.Core.Path.{_≡_};
 ghost use Rattle.nib.specs.Slots.{entryOf, ringOf, zoneOf, slotOf};
-
-// A span, its agreements and its observations.
-pub struct Estimate {
-    pub span: usize,
-    pub agreements: usize,
-    pub observations: usize,
-}
 
 // The number of pairs in a file's catalogue, or the refusal's number.
 pub enum Pairs {

@@ -1,0 +1,5 @@
+pub mod Apart
+pub mod ChainBound
+pub mod ChainLaws
+pub mod D64Clearing
+pub mod RingsClearing
