@@ -1,25 +1,34 @@
 // Tracks built by rows, compared by lines with what the original built (compare/README.md).
+use libc::STDIN_FILENO;
+use libc::STDOUT_FILENO;
 use replay::Row;
-use report::Input;
 use track::Built;
 use vectors::sum;
 
-fn tell(answer: Built) {
+// A line with its end, written.
+fn write(line: &mut [u8], at: usize) {
+    let n = lines::words(line, at, b"\n");
+    io::write_all(STDOUT_FILENO, lines::so_far(line, n));
+}
+
+// How the line about an answer begins.
+fn tell(line: &mut [u8], answer: Built) -> usize {
     match answer {
         Built::Written(n) => {
-            report::words(b"built");
-            report::number(n as u64);
+            let at = lines::words(line, 0, b"built");
+            lines::number(line, at, n as u64)
         }
-        Built::Refused(n) => report::refused(n),
+        Built::Refused(n) => lines::refused(line, 0, n),
     }
 }
 
 // The answer, and the checksum of the whole room as it then is.
 fn build(target: &mut [u8], source: &[u8], row: Row) {
-    tell(craft::build(target, source, row));
+    let mut line = [0u8; 128];
+    let mut at = tell(&mut line, craft::build(target, source, row));
     let room = craft::part(target, row.a as usize, row.b as usize);
-    report::sum(sum::mix_all(sum::START, room));
-    report::end_line();
+    at = lines::sum(&mut line, at, sum::mix_all(sum::START, room));
+    write(&mut line, at);
 }
 
 // A row that asks prints a line; any other is carried out.
@@ -31,13 +40,16 @@ fn turn(target: &mut [u8], source: &mut [u8], row: Row) {
     }
 }
 
-// One row; false where the input ends.
+// One row, or a heading, which is copied to the output; false where the input ends.
 fn take_row(target: &mut [u8], source: &mut [u8]) -> bool {
-    let input = report::next_row();
-    match input {
-        Input::Next(row) => turn(target, source, row),
-        Input::Heading => {}
-        Input::End => return false,
+    let mut bytes = [0u8; 56];
+    if io::read_full(STDIN_FILENO, &mut bytes) < 56 {
+        return false;
+    }
+    if bytes[0] == b'#' {
+        io::write_all(STDOUT_FILENO, &bytes);
+    } else {
+        turn(target, source, replay::row_of(&bytes));
     }
     true
 }

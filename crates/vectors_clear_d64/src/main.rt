@@ -1,26 +1,35 @@
 // D64 images made by rows, cleared, and compared by lines with what the original did (compare/README.md).
+use libc::STDIN_FILENO;
+use libc::STDOUT_FILENO;
 use reclaim::Outcome;
 use replay::Row;
-use report::Input;
 use vectors::sum;
 
-fn tell(answer: Outcome) {
+// A line with its end, written.
+fn write(line: &mut [u8], at: usize) {
+    let n = lines::words(line, at, b"\n");
+    io::write_all(STDOUT_FILENO, lines::so_far(line, n));
+}
+
+// How a line about an answer begins.
+fn tell(line: &mut [u8], answer: Outcome) -> usize {
     match answer {
         Outcome::Cleared { free, changed } => {
-            report::words(b"free");
-            report::number(free as u64);
-            report::words(b" changed");
-            report::number(changed as u64);
+            let mut at = lines::words(line, 0, b"free");
+            at = lines::number(line, at, free as u64);
+            at = lines::words(line, at, b" changed");
+            lines::number(line, at, changed as u64)
         }
-        Outcome::Refused(n) => report::refused(n),
+        Outcome::Refused(n) => lines::refused(line, 0, n),
     }
 }
 
 // The answer, and the checksum of the image as it then is.
 fn clear(image: &mut [u8]) {
-    tell(reclaim::clear_d64(image));
-    report::sum(sum::mix_all(sum::START, image));
-    report::end_line();
+    let mut line = [0u8; 128];
+    let mut at = tell(&mut line, reclaim::clear_d64(image));
+    at = lines::sum(&mut line, at, sum::mix_all(sum::START, image));
+    write(&mut line, at);
 }
 
 fn clear_part(target: &mut [u8], at: usize, n: usize) {
@@ -43,13 +52,16 @@ fn turn(target: &mut [u8], row: Row) {
     }
 }
 
-// One row; false where the input ends.
+// One row, or a heading, which is copied to the output; false where the input ends.
 fn take_row(target: &mut [u8]) -> bool {
-    let input = report::next_row();
-    match input {
-        Input::Next(row) => turn(target, row),
-        Input::Heading => {}
-        Input::End => return false,
+    let mut bytes = [0u8; 56];
+    if io::read_full(STDIN_FILENO, &mut bytes) < 56 {
+        return false;
+    }
+    if bytes[0] == b'#' {
+        io::write_all(STDOUT_FILENO, &bytes);
+    } else {
+        turn(target, replay::row_of(&bytes));
     }
     true
 }

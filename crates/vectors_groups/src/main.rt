@@ -1,5 +1,6 @@
 // Groups of the nibble code, encoded and decoded, with a line for each set of them. What it must write was written by
 // the original (compare/README.md).
+use libc::STDOUT_FILENO;
 use vectors::draw;
 use vectors::sum;
 
@@ -61,13 +62,20 @@ fn decoded(p: Part, code: [u8; 5]) -> Part {
     }
 }
 
+// A line with its end, written.
+fn write(line: &mut [u8], at: usize) {
+    let n = lines::words(line, at, b"\n");
+    io::write_all(STDOUT_FILENO, lines::so_far(line, n));
+}
+
 fn show(name: &[u8], p: Part, what: &[u8]) {
-    report::words(name);
-    report::number(p.count);
-    report::words(what);
-    report::number(p.kept);
-    report::sum(p.total);
-    report::end_line();
+    let mut line = [0u8; 128];
+    let mut at = lines::words(&mut line, 0, name);
+    at = lines::number(&mut line, at, p.count);
+    at = lines::words(&mut line, at, what);
+    at = lines::number(&mut line, at, p.kept);
+    at = lines::sum(&mut line, at, p.total);
+    write(&mut line, at);
 }
 
 // Pair k of first bytes, with two zeros behind it.

@@ -1,22 +1,24 @@
 // The ring lister on inputs made here, each listing under a name. What it must write comes from document 01's rules by
 // compare/lister-lines, not from this program.
+use libc::STDOUT_FILENO;
 use lister::Listed;
 use track::Built;
 
 // The longest input, and one byte more.
 const ROOM: usize = 8203;
 
+fn write(bytes: &[u8]) {
+    io::write_all(STDOUT_FILENO, bytes);
+}
+
 fn show(name: &[u8], input: &[u8]) {
-    report::words(name);
-    report::end_line();
+    write(name);
+    write(b"\n");
     let mut out = [0u8; lister::LONGEST_LISTING];
     let answer = lister::list_ring(input, &mut out);
-    let Listed::Written(n) = answer else {
-        report::words(b"no room\n");
-        return;
-    };
-    if n <= lister::LONGEST_LISTING {
-        report::words(&out[0..n]);
+    match answer {
+        Listed::Written(n) => write(lines::so_far(&out, n)),
+        Listed::Refused(_) => write(b"no room\n"),
     }
 }
 

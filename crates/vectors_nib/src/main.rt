@@ -1,11 +1,18 @@
 // NIB files read and made, compared by lines with what the original did (compare/README.md).
 ghost use Prim.Native.Nat.{_<_, _≤_};
 ghost use lib.ListN.{length};
+use libc::STDIN_FILENO;
+use libc::STDOUT_FILENO;
 use nib::Encoded;
 use nib::Zone;
 use replay::Row;
-use report::Input;
 use vectors::sum;
+
+// A line with its end, written.
+fn write(line: &mut [u8], at: usize) {
+    let n = lines::words(line, at, b"\n");
+    io::write_all(STDOUT_FILENO, lines::so_far(line, n));
+}
 
 struct Slots {
     present: u64,
@@ -41,37 +48,41 @@ fn all_slots(file: &[u8]) -> Slots {
     slots
 }
 
+fn tell_slots(line: &mut [u8], slots: Slots) -> usize {
+    let mut at = lines::words(line, 0, b"slots");
+    at = lines::number(line, at, slots.present);
+    lines::sum(line, at, slots.total)
+}
+
 fn whole(target: &[u8], row: Row) {
     let file = craft::part(target, row.a as usize, row.b as usize);
     let zone = nib::nib_zone(file, 0);
-    match zone {
-        Zone::Refused(n) => report::refused(n),
-        Zone::Is(_) => {
-            let slots = all_slots(file);
-            report::words(b"slots");
-            report::number(slots.present);
-            report::sum(slots.total);
-        }
-    }
-    report::end_line();
+    let mut line = [0u8; 128];
+    let at = match zone {
+        Zone::Refused(n) => lines::refused(&mut line, 0, n),
+        Zone::Is(_) => tell_slots(&mut line, all_slots(file)),
+    };
+    write(&mut line, at);
+}
+
+fn tell_slot(line: &mut [u8], zone: u8, ring: &[u8]) -> usize {
+    let mut at = lines::words(line, 0, b"zone");
+    at = lines::number(line, at, zone as u64);
+    at = lines::words(line, at, b" length");
+    at = lines::number(line, at, ring.len() as u64);
+    lines::sum(line, at, sum::mix_all(sum::START, ring))
 }
 
 fn one_slot(target: &[u8], row: Row) {
     let file = craft::part(target, row.a as usize, row.b as usize);
     let slot = row.c as usize;
     let zone = nib::nib_zone(file, slot);
-    match zone {
-        Zone::Refused(n) => report::refused(n),
-        Zone::Is(z) => {
-            let ring = nib::nib_ring(file, slot);
-            report::words(b"zone");
-            report::number(z as u64);
-            report::words(b" length");
-            report::number(ring.len() as u64);
-            report::sum(sum::mix_all(sum::START, ring));
-        }
-    }
-    report::end_line();
+    let mut line = [0u8; 128];
+    let at = match zone {
+        Zone::Refused(n) => lines::refused(&mut line, 0, n),
+        Zone::Is(z) => tell_slot(&mut line, z, nib::nib_ring(file, slot)),
+    };
+    write(&mut line, at);
 }
 
 fn wide(x: u8) -> u64
@@ -98,13 +109,13 @@ fn read_lengths(lengths: &mut [u64], source: &[u8])
     }
 }
 
-fn tell_encoded(answer: Encoded) {
+fn tell_encoded(line: &mut [u8], answer: Encoded) -> usize {
     match answer {
         Encoded::Written(n) => {
-            report::words(b"encoded");
-            report::number(n as u64);
+            let at = lines::words(line, 0, b"encoded");
+            lines::number(line, at, n as u64)
         }
-        Encoded::Refused(n) => report::refused(n),
+        Encoded::Refused(n) => lines::refused(line, 0, n),
     }
 }
 
@@ -112,9 +123,13 @@ fn tell_encoded(answer: Encoded) {
 fn encode_into(room: &mut [u8], source: &[u8], row: Row, lengths: &[u64]) {
     let zones = craft::part(source, 210944, row.f as usize);
     let rings = craft::part(source, row.c as usize, row.d as usize);
-    tell_encoded(nib::encode::encode_nib(lengths, zones, rings, room));
-    report::sum(sum::mix_all(sum::START, room));
-    report::end_line();
+    let mut line = [0u8; 128];
+    let mut at = tell_encoded(
+        &mut line,
+        nib::encode::encode_nib(lengths, zones, rings, room),
+    );
+    at = lines::sum(&mut line, at, sum::mix_all(sum::START, room));
+    write(&mut line, at);
 }
 
 fn encode_with(room: &mut [u8], source: &[u8], row: Row, lengths: &mut [u64]) {
@@ -154,13 +169,16 @@ fn turn(target: &mut [u8], source: &mut [u8], row: Row) {
     }
 }
 
-// One row; false where the input ends.
+// One row, or a heading, which is copied to the output; false where the input ends.
 fn take_row(target: &mut [u8], source: &mut [u8]) -> bool {
-    let input = report::next_row();
-    match input {
-        Input::Next(row) => turn(target, source, row),
-        Input::Heading => {}
-        Input::End => return false,
+    let mut bytes = [0u8; 56];
+    if io::read_full(STDIN_FILENO, &mut bytes) < 56 {
+        return false;
+    }
+    if bytes[0] == b'#' {
+        io::write_all(STDOUT_FILENO, &bytes);
+    } else {
+        turn(target, source, replay::row_of(&bytes));
     }
     true
 }

@@ -1,13 +1,21 @@
 // Captures made by rows, and the spans found in them, compared by lines with those of the original (compare/README.md).
+use libc::STDIN_FILENO;
+use libc::STDOUT_FILENO;
 use replay::Row;
-use report::Input;
+
+// A line with its end, written.
+fn write(line: &mut [u8], at: usize) {
+    let n = lines::words(line, at, b"\n");
+    io::write_all(STDOUT_FILENO, lines::so_far(line, n));
+}
 
 fn span(target: &[u8], row: Row) {
     let window = craft::part(target, row.a as usize, row.b as usize);
     let ring = orbit::recover_orbit(window, (row.c % 256) as u8);
-    report::words(b"span");
-    report::number(ring.len() as u64);
-    report::end_line();
+    let mut line = [0u8; 128];
+    let mut at = lines::words(&mut line, 0, b"span");
+    at = lines::number(&mut line, at, ring.len() as u64);
+    write(&mut line, at);
 }
 
 // A row that asks prints a line; any other is carried out.
@@ -19,13 +27,16 @@ fn turn(target: &mut [u8], source: &mut [u8], row: Row) {
     }
 }
 
-// One row; false where the input ends.
+// One row, or a heading, which is copied to the output; false where the input ends.
 fn take_row(target: &mut [u8], source: &mut [u8]) -> bool {
-    let input = report::next_row();
-    match input {
-        Input::Next(row) => turn(target, source, row),
-        Input::Heading => {}
-        Input::End => return false,
+    let mut bytes = [0u8; 56];
+    if io::read_full(STDIN_FILENO, &mut bytes) < 56 {
+        return false;
+    }
+    if bytes[0] == b'#' {
+        io::write_all(STDOUT_FILENO, &bytes);
+    } else {
+        turn(target, source, replay::row_of(&bytes));
     }
     true
 }

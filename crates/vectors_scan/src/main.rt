@@ -1,10 +1,17 @@
 // Rings made by rows, scanned and read, compared by lines with what the original found (compare/README.md).
 ghost use Prim.Native.Nat.{_<_, _≤_};
+use libc::STDIN_FILENO;
+use libc::STDOUT_FILENO;
 use replay::Row;
-use report::Input;
 use scan::Scanned;
 use scan::TrackRead;
 use vectors::sum;
+
+// A line with its end, written.
+fn write(line: &mut [u8], at: usize) {
+    let n = lines::words(line, at, b"\n");
+    io::write_all(STDOUT_FILENO, lines::so_far(line, n));
+}
 
 fn least(a: usize, b: usize) -> usize
     ensures { λ r. ⌜ r ≤ b ⌝ }
@@ -39,16 +46,15 @@ fn records_sum(rows: &[u64], payloads: &[u8], n: usize) -> u32
     s
 }
 
-fn tell_records(answer: Scanned, rows: &[u64], payloads: &[u8]) {
+fn tell_records(line: &mut [u8], answer: Scanned, rows: &[u64], payloads: &[u8]) -> usize {
     match answer {
         Scanned::Records(n) => {
-            report::words(b"records");
-            report::number(n as u64);
-            report::sum(records_sum(rows, payloads, least(n, 195)));
+            let mut at = lines::words(line, 0, b"records");
+            at = lines::number(line, at, n as u64);
+            lines::sum(line, at, records_sum(rows, payloads, least(n, 195)))
         }
-        Scanned::Refused(n) => report::refused(n),
+        Scanned::Refused(n) => lines::refused(line, 0, n),
     }
-    report::end_line();
 }
 
 // As many rows are lent as the row says, with their payloads.
@@ -77,30 +83,33 @@ fn scan(target: &[u8], row: Row) {
     let mut rows = [0u64; 390];
     let mut payloads = [0u8; 49920];
     let answer = scan_into(ring, row, &mut rows, &mut payloads);
-    tell_records(answer, &rows, &payloads);
+    let mut line = [0u8; 128];
+    let at = tell_records(&mut line, answer, &rows, &payloads);
+    write(&mut line, at);
 }
 
-// The status digits of the first n sectors.
-fn tell_statuses(statuses: &[u8]) {
+// The status digits, from `from` on.
+fn put_statuses(line: &mut [u8], from: usize, statuses: &[u8]) -> usize {
+    let mut at = from;
     let mut i: usize = 0;
     while i < statuses.len() {
-        report::words(&[48 + statuses[i] % 10]);
+        at = lines::words(line, at, &[48 + statuses[i] % 10]);
         i += 1;
     }
+    at
 }
 
-fn tell_track(answer: TrackRead, payloads: &[u8], statuses: &[u8]) {
+fn tell_track(line: &mut [u8], answer: TrackRead, payloads: &[u8], statuses: &[u8]) -> usize {
     match answer {
         TrackRead::Found(n) => {
-            report::words(b"found");
-            report::number(n as u64);
-            report::words(b" status ");
-            tell_statuses(statuses);
-            report::sum(sum::mix_all(sum::START, payloads));
+            let mut at = lines::words(line, 0, b"found");
+            at = lines::number(line, at, n as u64);
+            at = lines::words(line, at, b" status ");
+            at = put_statuses(line, at, statuses);
+            lines::sum(line, at, sum::mix_all(sum::START, payloads))
         }
-        TrackRead::Refused(n) => report::refused(n),
+        TrackRead::Refused(n) => lines::refused(line, 0, n),
     }
-    report::end_line();
 }
 
 fn read(target: &[u8], row: Row) {
@@ -110,11 +119,14 @@ fn read(target: &[u8], row: Row) {
     let track = (row.c % 256) as u8;
     let answer = scan::decode_track_from(ring, track, start_of(row), &mut payloads, &mut statuses);
     let count = geometry::sectors_per_track(track) as usize;
-    tell_track(
+    let mut line = [0u8; 128];
+    let at = tell_track(
+        &mut line,
         answer,
         craft::part(&payloads, 0, 256 * count),
         craft::part(&statuses, 0, count),
     );
+    write(&mut line, at);
 }
 
 // A row that asks prints a line; any other is carried out.
@@ -127,13 +139,16 @@ fn turn(target: &mut [u8], source: &mut [u8], row: Row) {
     }
 }
 
-// One row; false where the input ends.
+// One row, or a heading, which is copied to the output; false where the input ends.
 fn take_row(target: &mut [u8], source: &mut [u8]) -> bool {
-    let input = report::next_row();
-    match input {
-        Input::Next(row) => turn(target, source, row),
-        Input::Heading => {}
-        Input::End => return false,
+    let mut bytes = [0u8; 56];
+    if io::read_full(STDIN_FILENO, &mut bytes) < 56 {
+        return false;
+    }
+    if bytes[0] == b'#' {
+        io::write_all(STDOUT_FILENO, &bytes);
+    } else {
+        turn(target, source, replay::row_of(&bytes));
     }
     true
 }

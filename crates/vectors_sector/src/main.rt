@@ -1,37 +1,46 @@
 // Sectors read and replaced by both rules, compared by lines with what the original did (compare/README.md).
+use libc::STDIN_FILENO;
+use libc::STDOUT_FILENO;
 use replay::Row;
-use report::Input;
 use sector::Replaced;
 use sector::Sector;
 use vectors::sum;
 
-fn tell_sector(answer: Sector) {
-    let bytes = answer.bytes;
-    if answer.ok {
-        report::words(b"sector");
-        report::sum(sum::mix_all(sum::START, &bytes));
-    } else {
-        report::refused(answer.number);
+// A line with its end, written.
+fn write(line: &mut [u8], at: usize) {
+    let n = lines::words(line, at, b"\n");
+    io::write_all(STDOUT_FILENO, lines::so_far(line, n));
+}
+
+fn tell_sector(line: &mut [u8], answer: Sector) -> usize {
+    if !answer.ok {
+        return lines::refused(line, 0, answer.number);
     }
-    report::end_line();
+    let bytes = answer.bytes;
+    let at = lines::words(line, 0, b"sector");
+    lines::sum(line, at, sum::mix_all(sum::START, &bytes))
+}
+
+fn decoded(ring: &[u8], track: u8, number: u8, unique: bool) -> Sector {
+    if unique {
+        return sector::decode_sector_unique(ring, track, number);
+    }
+    sector::decode_sector_consistent(ring, track, number)
 }
 
 // One sector, by the unique rule or by the consistent one.
 fn read(target: &[u8], row: Row, unique: bool) {
     let ring = craft::part(target, row.a as usize, row.b as usize);
-    let track = (row.c % 256) as u8;
-    let number = (row.d % 256) as u8;
-    if unique {
-        tell_sector(sector::decode_sector_unique(ring, track, number));
-    } else {
-        tell_sector(sector::decode_sector_consistent(ring, track, number));
-    }
+    let answer = decoded(ring, (row.c % 256) as u8, (row.d % 256) as u8, unique);
+    let mut line = [0u8; 128];
+    let at = tell_sector(&mut line, answer);
+    write(&mut line, at);
 }
 
-fn tell_replaced(answer: Replaced) {
+fn tell_replaced(line: &mut [u8], answer: Replaced) -> usize {
     match answer {
-        Replaced::Written => report::words(b"written"),
-        Replaced::Refused(n) => report::refused(n),
+        Replaced::Written => lines::words(line, 0, b"written"),
+        Replaced::Refused(n) => lines::refused(line, 0, n),
     }
 }
 
@@ -44,9 +53,10 @@ fn replaced(ring: &mut [u8], track: u8, number: u8, bytes: &[u8; 256], unique: b
 
 // The answer, and the checksum of the ring as it then is.
 fn replace_in(ring: &mut [u8], track: u8, number: u8, bytes: &[u8; 256], unique: bool) {
-    tell_replaced(replaced(ring, track, number, bytes, unique));
-    report::sum(sum::mix_all(sum::START, ring));
-    report::end_line();
+    let mut line = [0u8; 128];
+    let mut at = tell_replaced(&mut line, replaced(ring, track, number, bytes, unique));
+    at = lines::sum(&mut line, at, sum::mix_all(sum::START, ring));
+    write(&mut line, at);
 }
 
 fn replace(target: &mut [u8], source: &[u8], row: Row, unique: bool) {
@@ -85,13 +95,16 @@ fn turn(target: &mut [u8], source: &mut [u8], row: Row) {
     }
 }
 
-// One row; false where the input ends.
+// One row, or a heading, which is copied to the output; false where the input ends.
 fn take_row(target: &mut [u8], source: &mut [u8]) -> bool {
-    let input = report::next_row();
-    match input {
-        Input::Next(row) => turn(target, source, row),
-        Input::Heading => {}
-        Input::End => return false,
+    let mut bytes = [0u8; 56];
+    if io::read_full(STDIN_FILENO, &mut bytes) < 56 {
+        return false;
+    }
+    if bytes[0] == b'#' {
+        io::write_all(STDOUT_FILENO, &bytes);
+    } else {
+        turn(target, source, replay::row_of(&bytes));
     }
     true
 }

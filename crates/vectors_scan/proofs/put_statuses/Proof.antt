@@ -1,23 +1,24 @@
 use Prim.Native.Nat.{_≤_, _-_}
+use mathlib.Core.Path.{_≡_}
 use lib.ListN.{length}
 use borrow.Author.Needs.{needs}
-use Rattle.vectors_scan.proofs.tell_statuses.Statement.{statement}
-use Rattle.vectors_scan.proofs.tell_statuses.Tie as tie
+use Rattle.vectors_scan.proofs.put_statuses.Statement.{statement}
+use Rattle.vectors_scan.proofs.put_statuses.Tie as tie
 
 abbrev Inv-loop : tie.InvT-loop
-Inv-loop statuses i₀ i = i ≤ length statuses
+Inv-loop line₀ from statuses at₀ i₀ line at i = (i ≤ length statuses) × (length line ≡ length line₀)
 
 abbrev μ-loop : tie.MeasureT-loop
-μ-loop statuses i₀ i = length statuses - i
+μ-loop line₀ from statuses at₀ i₀ line at i = length statuses - i
 
 loop-holds : tie.Need-loop-holds Inv-loop μ-loop
 loop-holds c = search needs
 
-shared-slice-read-t8 : tie.Need-shared-slice-read-t8 Inv-loop μ-loop
-shared-slice-read-t8 c = search needs
+shared-slice-read-t12 : tie.Need-shared-slice-read-t12 Inv-loop μ-loop
+shared-slice-read-t12 c = search needs
 
-add-t10 : tie.Need-add-t10 Inv-loop μ-loop
-add-t10 c = search needs
+add-t14 : tie.Need-add-t14 Inv-loop μ-loop
+add-t14 c = search needs
 
 slice-aggregate-words : tie.Need-slice-aggregate-words Inv-loop μ-loop
 slice-aggregate-words c = search needs
@@ -34,21 +35,25 @@ loop-less c = search needs
 loop-again : tie.Need-loop-again Inv-loop μ-loop
 loop-again c = search needs
 
+same-length : tie.Need-same-length Inv-loop μ-loop
+same-length c = search needs
+
 returns : tie.Need-returns Inv-loop μ-loop
 returns c = search needs
 
-pub tell-statuses-spec : {M : Type 1} → statement M
-tell-statuses-spec =
+pub put-statuses-spec : {M : Type 1} → statement M
+put-statuses-spec =
     tie.close
     (tie.spec
     Inv-loop
     μ-loop
     loop-holds
-    shared-slice-read-t8
-    add-t10
+    shared-slice-read-t12
+    add-t14
     slice-aggregate-words
     words-requires
     add-i
     loop-less
     loop-again
+    same-length
     returns)
