@@ -61,7 +61,8 @@ any-ids track sector id1 id2 found l =
 pub slips : Slips
 slips = record {
   ten-to-fifteen-at-the-join = λ x last n z o e l u. at-last x last z ∙ found-again x (last + 1) n (15 - n) (omega arith) o e l;
-  sixteen-at-the-join = λ x last z o. at-last x last z ∙ passed x 16 0 16 (last + 1) (last + 17) 0 16 refl (omega arith) refl o ∙ nothing x (last + 17) 16;
+  sixteen-at-the-join = λ x last z o. at-last x last z ∙ passed x 16 0 16 (last + 1) (last + 17) 0 16 refl (omega arith) refl o ∙ nothing
+      x (last + 17) 16;
   ones-count-from-the-start = λ x y start limit a. sync-same x y limit start 0 (λ i l u. a i l);
   ids-are-not-compared = any-ids;
 }

@@ -18,7 +18,8 @@ use Rattle.reclaim.specs.declared.Outcome.the-variants.{Cleared}
 use Rattle.reclaim.specs.Marks.{markPlace}
 use Rattle.reclaim.specs.Disk.{bamFree, disk1541}
 use Rattle.reclaim.specs.Chains.{chainOf}
-use Rattle.reclaim.specs.Clearing.{Kind, isFree, hasData, cleared, clearSector, tracksDone, untouched, refuse, finish, withChain, withBam, clearing}
+use Rattle.reclaim.specs.Clearing.{Kind, isFree, hasData, cleared, clearSector, tracksDone}
+use Rattle.reclaim.specs.Clearing.{untouched, refuse, finish, withChain, withBam, clearing}
 use Rattle.reclaim.specs.Counting.{freeSectors, freeTracks}
 use Rattle.reclaim.specs.Contracts.{work, answer}
 

@@ -17,11 +17,20 @@ use Rattle.vectors.specs.Fields.{hexValue}
 abbrev pub firstDigits : List ℕ → ℕ → ℕ → ℕ
 firstDigits row at k = number 16 0 (map hexValue (take k (drop at row)))
 
-pub digits-more : (row : List ℕ) (at k value v : ℕ) → at + k < length row → value ≡ firstDigits row at k → v ≡ hexValue (getD row (at + k) 0)
+pub digits-more : (row : List ℕ) (at k value v : ℕ) → at + k < length row → value ≡ firstDigits row at k → v ≡ hexValue
+    (getD row (at + k) 0)
     → value * 16 + v ≡ firstDigits row at (k + 1)
 digits-more row at k value v h e f =
     let l : k < length (drop at row) = simp length-drop (omega arith) in
-    rw (e, f, add-one, take-suc (drop at row) k 0 l, getD-drop at row k 0, map-append hexValue (take k (drop at row)) (getD row (at + k) 0 ∷ []))
+    rw (
+      e,
+      f,
+      add-one,
+      take-suc (drop at row) k 0 l,
+      getD-drop at row k 0,
+      map-append hexValue (take k (drop at row))
+          (getD row (at + k) 0 ∷ []),
+    )
     (sym (number-append 16 0 (map hexValue (take k (drop at row))) (hexValue (getD row (at + k) 0) ∷ [])))
 
 pub digits-bound : (k value v : ℕ) → value < 16 ^ k → v < 16 → value * 16 + v < 16 ^ (k + 1)

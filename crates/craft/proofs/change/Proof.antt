@@ -60,8 +60,10 @@ returns-3 c =
     let a = c .before .before .before .before .before .before .before .before .before .before .before .before .before .args in
     let r = c .before .before .change-ring in
     let p = c .before .before .before .before .part in
-    done (a .row .a) (a .row .b) (ringChanged (a .row) (partOf (a .row .d) (a .row .e) (a .source .now))) (a .target .now) (omega arith) (r .last .0)
-    (r .ensures ∙ ap (λ (l : List ℕ). ringChanged (a .row) l (take (a .row .a + a .row .b - a .row .a) (drop (a .row .a) (a .target .now)))) (p .ensures))
+    done (a .row .a) (a .row .b) (ringChanged (a .row) (partOf (a .row .d) (a .row .e) (a .source .now))) (a .target .now) (omega arith)
+    (r .last .0)
+    (r .ensures ∙ ap (λ (l : List ℕ). ringChanged (a .row) l
+    (take (a .row .a + a .row .b - a .row .a) (drop (a .row .a) (a .target .now)))) (p .ensures))
 
 pub change-spec : {M : Type 1} → statement M
 change-spec =

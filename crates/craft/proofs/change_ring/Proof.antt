@@ -30,7 +30,8 @@ same-length-2 c = search needs
 returns-2 : tie.Need-returns-2
 returns-2 c =
     let a = c .before .before .before .before .before .before .before .args in
-    c .before .before .make-bits2 .ensures ∙ ring-I (a .row) (a .bytes .now) (a .ring .now) (c .before .before .before .before .match .keys2)
+    c .before .before .make-bits2 .ensures ∙ ring-I (a .row) (a .bytes .now) (a .ring .now)
+    (c .before .before .before .before .match .keys2)
 
 same-length-3 : tie.Need-same-length-3
 same-length-3 c = search needs
@@ -46,7 +47,8 @@ same-length-4 c = search needs
 returns-4 : tie.Need-returns-4
 returns-4 c =
     let a = c .before .before .before .before .before .before .before .args in
-    c .before .before .write-code .ensures ∙ ring-G (a .row) (a .bytes .now) (a .ring .now) (c .before .before .before .before .match .keys4)
+    c .before .before .write-code .ensures ∙ ring-G (a .row) (a .bytes .now) (a .ring .now)
+    (c .before .before .before .before .match .keys4)
 
 returns-5 : tie.Need-returns-5
 returns-5 c =

@@ -40,7 +40,8 @@ sub-write-bit c =
 
 write-bit-requires : tie.Need-write-bit-requires Inv-loop μ-loop
 write-bit-requires c κs =
-    ring-kept (ap length (c .before .before .before .before .before .loop .inv .1) ∙ length-flipped _ _ _) (c .before .before .before .before .before .before .before .pre)
+    ring-kept (ap length (c .before .before .before .before .before .loop .inv .1) ∙ length-flipped _ _ _)
+    (c .before .before .before .before .before .before .before .pre)
 
 add-k : tie.Need-add-k Inv-loop μ-loop
 add-k c = search needs

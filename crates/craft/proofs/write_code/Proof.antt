@@ -48,7 +48,8 @@ returns-4 c =
     let a = c .before .before .before .before .before .before .before .before .before .before .before .before .before .args in
     code-done (a .bit) (a .bytes .now) (a .ring .now) (omega arith) (omega arith) (omega arith) (w .last .0)
     (w .ensures
-    ∙ code-front (a .ring .now) (replicate 325 0) (e .last .0) (a .bytes .now) (a .bit) (length (a .bytes .now) / 4) (omega arith) (e .ensures))
+    ∙ code-front (a .ring .now) (replicate 325 0) (e .last .0) (a .bytes .now) (a .bit) (length (a .bytes .now) / 4) (omega arith)
+    (e .ensures))
 
 pub write-code-spec : {M : Type 1} → statement M
 write-code-spec =

@@ -36,7 +36,8 @@ add-write-bit c = search needs
 
 write-bit-requires : tie.Need-write-bit-requires Inv-loop μ-loop
 write-bit-requires c κs =
-    ring-kept (ap length (c .before .before .before .loop .inv .1) ∙ length-writeBits _ _ _ _) (c .before .before .before .before .before .before .pre .0)
+    ring-kept (ap length (c .before .before .before .loop .inv .1) ∙ length-writeBits _ _ _ _)
+    (c .before .before .before .before .before .before .pre .0)
 
 add-k : tie.Need-add-k Inv-loop μ-loop
 add-k c = search needs

@@ -35,8 +35,11 @@ loop-again : tie.Need-loop-again Inv-loop μ-loop
 loop-again c =
     let l = c .before .before .before .before .before .loop in
     let a = c .before .before .before .before .before .before .before .args in
-    let w = c .before .before .write-bit in
-    (omega arith, run-more (a .ring .now) (l .ring) (w .last .0) (a .start) (λ j. a .value % 2) (l .k) (a .value % 2) (l .inv .1) refl (w .ensures))
+    let w = c .before .before .write-bit in (
+      omega arith,
+      run-more (a .ring .now) (l .ring) (w .last .0) (a .start) (λ j. a .value % 2) (l .k) (a .value % 2) (l .inv .1) refl
+          (w .ensures),
+    )
 
 same-length : tie.Need-same-length Inv-loop μ-loop
 same-length c = ap length (c .before .loop .inv .1) ∙ length-writeBits _ _ _ _
