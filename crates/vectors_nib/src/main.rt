@@ -48,40 +48,45 @@ fn all_slots(file: &[u8]) -> Slots {
     slots
 }
 
-fn tell_slots(line: &mut [u8], slots: Slots) -> usize {
-    let mut at = lines::words(line, 0, b"slots");
-    at = lines::number(line, at, slots.present);
-    lines::sum(line, at, slots.total)
+fn tell_slots(line: &mut [u8], file: &[u8]) -> usize {
+    let zone = nib::nib_zone(file, 0);
+    match zone {
+        Zone::Refused(n) => lines::refused(line, 0, n),
+        Zone::Is(_) => {
+            let slots = all_slots(file);
+            let mut at = lines::words(line, 0, b"slots");
+            at = lines::number(line, at, slots.present);
+            lines::sum(line, at, slots.total)
+        }
+    }
 }
 
 fn whole(target: &[u8], row: Row) {
     let file = craft::part(target, row.a as usize, row.b as usize);
-    let zone = nib::nib_zone(file, 0);
     let mut line = [0u8; 128];
-    let at = match zone {
-        Zone::Refused(n) => lines::refused(&mut line, 0, n),
-        Zone::Is(_) => tell_slots(&mut line, all_slots(file)),
-    };
+    let at = tell_slots(&mut line, file);
     write(&mut line, at);
 }
 
-fn tell_slot(line: &mut [u8], zone: u8, ring: &[u8]) -> usize {
-    let mut at = lines::words(line, 0, b"zone");
-    at = lines::number(line, at, zone as u64);
-    at = lines::words(line, at, b" length");
-    at = lines::number(line, at, ring.len() as u64);
-    lines::sum(line, at, sum::mix_all(sum::START, ring))
+fn tell_slot(line: &mut [u8], file: &[u8], slot: usize) -> usize {
+    let zone = nib::nib_zone(file, slot);
+    match zone {
+        Zone::Refused(n) => lines::refused(line, 0, n),
+        Zone::Is(z) => {
+            let ring = nib::nib_ring(file, slot);
+            let mut at = lines::words(line, 0, b"zone");
+            at = lines::number(line, at, z as u64);
+            at = lines::words(line, at, b" length");
+            at = lines::number(line, at, ring.len() as u64);
+            lines::sum(line, at, sum::mix_all(sum::START, ring))
+        }
+    }
 }
 
 fn one_slot(target: &[u8], row: Row) {
     let file = craft::part(target, row.a as usize, row.b as usize);
-    let slot = row.c as usize;
-    let zone = nib::nib_zone(file, slot);
     let mut line = [0u8; 128];
-    let at = match zone {
-        Zone::Refused(n) => lines::refused(&mut line, 0, n),
-        Zone::Is(z) => tell_slot(&mut line, z, nib::nib_ring(file, slot)),
-    };
+    let at = tell_slot(&mut line, file, row.c as usize);
     write(&mut line, at);
 }
 

@@ -1,0 +1,81 @@
+// NIB images made by rows, cleared, and compared by lines with what the original did (compare/README.md).
+use libc::STDIN_FILENO;
+use libc::STDOUT_FILENO;
+use reclaim::Outcome;
+use replay::Row;
+use vectors::sum;
+
+// A line with its end, written.
+fn write(line: &mut [u8], at: usize) {
+    let n = lines::words(line, at, b"\n");
+    io::write_all(STDOUT_FILENO, lines::so_far(line, n));
+}
+
+// How a line about an answer begins.
+fn tell(line: &mut [u8], answer: Outcome) -> usize {
+    match answer {
+        Outcome::Cleared { free, changed } => {
+            let mut at = lines::words(line, 0, b"free");
+            at = lines::number(line, at, free as u64);
+            at = lines::words(line, at, b" changed");
+            lines::number(line, at, changed as u64)
+        }
+        Outcome::Refused(n) => lines::refused(line, 0, n),
+    }
+}
+
+// The answer, and the checksum of the image as it then is.
+fn clear(image: &mut [u8]) {
+    let mut line = [0u8; 128];
+    let mut at = tell(&mut line, reclaim::clear_nib(image));
+    at = lines::sum(&mut line, at, sum::mix_all(sum::START, image));
+    write(&mut line, at);
+}
+
+fn clear_part(target: &mut [u8], at: usize, n: usize) {
+    if target.len() < at {
+        return;
+    }
+    if target.len() - at < n {
+        return;
+    }
+    let end = at + n;
+    clear(&mut target[at..end]);
+}
+
+// A row that asks prints a line; any other is carried out.
+fn turn(target: &mut [u8], source: &mut [u8], row: Row) {
+    let letter = row.letter;
+    match letter {
+        b'x' => clear_part(target, row.a as usize, row.b as usize),
+        _ => craft::carry_out(target, source, row),
+    }
+}
+
+// One row, or a heading, which is copied to the output; false where the input ends.
+fn take_row(target: &mut [u8], source: &mut [u8]) -> bool {
+    let mut bytes = [0u8; 56];
+    if io::read_full(STDIN_FILENO, &mut bytes) < 56 {
+        return false;
+    }
+    if bytes[0] == b'#' {
+        io::write_all(STDOUT_FILENO, &bytes);
+    } else {
+        turn(target, source, replay::row_of(&bytes));
+    }
+    true
+}
+
+// The rows in order. Nothing says that the input ends, so the loop counts its turns down from more than any file has.
+fn run(target: &mut [u8], source: &mut [u8]) {
+    let mut turns = u64::MAX;
+    while turns > 0 && take_row(target, source) {
+        turns -= 1;
+    }
+}
+
+fn main() {
+    let mut target = [0u8; 393472];
+    let mut source = [0u8; 212992];
+    run(&mut target, &mut source);
+}
