@@ -42,9 +42,9 @@ abbrev pub foundAfter : ℕ → TrackRead → ℕ
 foundAfter found (Found n) = n
 foundAfter found (NotRead number) = found
 
--- a sector read (a sector that reads has number 0); its bytes
+-- a sector read; its bytes
 abbrev pub sectorNumber : Sector → ℕ
-sectorNumber found = found .number
+sectorNumber found = pick (found .ok) 0 (found .number)
 
 abbrev pub bytesAfter : List ℕ → Sector → List ℕ
 bytesAfter out found = pick (found .ok) (found .bytes) out

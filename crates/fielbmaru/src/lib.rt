@@ -134,12 +134,13 @@ pub extern "C" fn fielbmaru_decode_track(
 fn hand_out(found: Sector, out: &mut [u8; 256]) -> u64
     ensures { λ r. ⌜ (r ≡ sectorNumber found) × (now (out .exit) ≡ bytesAfter (now (out .entry)) found) ⌝ }
 {
+    let number = found.number as u64;
     if !found.ok {
-        return found.number as u64;
+        return number;
     }
     let bytes = found.bytes;
     *out = bytes;
-    found.number as u64
+    0
 }
 
 // A sector by the unique rule.

@@ -4,19 +4,15 @@ use borrow.Author.Needs.{needs}
 use Rattle.fielbmaru.proofs.fielbmaru_build_track.Statement.{statement}
 use Rattle.fielbmaru.proofs.fielbmaru_build_track.Tie as tie
 
--- src/lib.rt:63:21
 build-track-with-errors-requires : tie.Need-build-track-with-errors-requires
 build-track-with-errors-requires c κs = search needs
 
--- src/lib.rt:63:5
 number-of-built-requires : tie.Need-number-of-built-requires
 number-of-built-requires c κs = search needs
 
--- src/lib.rt:51:1
 same-length : tie.Need-same-length
 same-length c = search needs
 
--- src/lib.rt:51:1
 returns : tie.Need-returns
 returns c =
     let k = c .before .before .before in

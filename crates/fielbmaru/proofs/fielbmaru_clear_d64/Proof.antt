@@ -5,19 +5,15 @@ use borrow.Author.Needs.{needs}
 use Rattle.fielbmaru.proofs.fielbmaru_clear_d64.Statement.{statement}
 use Rattle.fielbmaru.proofs.fielbmaru_clear_d64.Tie as tie
 
--- src/lib.rt:273:9
 clear-d64-requires : tie.Need-clear-d64-requires
 clear-d64-requires c κs = search needs
 
--- src/lib.rt:274:5
 tell-cleared-requires : tie.Need-tell-cleared-requires
 tell-cleared-requires c κs = search needs
 
--- src/lib.rt:266:1
 same-length : tie.Need-same-length
 same-length c = search needs
 
--- src/lib.rt:266:1
 returns : tie.Need-returns
 returns c =
     let e = c .before .before .before .before .before .clear-d64 .ensures in

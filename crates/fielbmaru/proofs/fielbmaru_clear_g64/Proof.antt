@@ -5,19 +5,15 @@ use borrow.Author.Needs.{needs}
 use Rattle.fielbmaru.proofs.fielbmaru_clear_g64.Statement.{statement}
 use Rattle.fielbmaru.proofs.fielbmaru_clear_g64.Tie as tie
 
--- src/lib.rt:285:9
 clear-g64-requires : tie.Need-clear-g64-requires
 clear-g64-requires c κs = search needs
 
--- src/lib.rt:286:5
 tell-cleared-requires : tie.Need-tell-cleared-requires
 tell-cleared-requires c κs = search needs
 
--- src/lib.rt:278:1
 same-length : tie.Need-same-length
 same-length c = search needs
 
--- src/lib.rt:278:1
 returns : tie.Need-returns
 returns c =
     let e = c .before .before .before .before .before .clear-g64 .ensures in

@@ -5,19 +5,15 @@ use borrow.Author.Needs.{needs}
 use Rattle.fielbmaru.proofs.fielbmaru_clear_nib.Statement.{statement}
 use Rattle.fielbmaru.proofs.fielbmaru_clear_nib.Tie as tie
 
--- src/lib.rt:297:9
 clear-nib-requires : tie.Need-clear-nib-requires
 clear-nib-requires c κs = search needs
 
--- src/lib.rt:298:5
 tell-cleared-requires : tie.Need-tell-cleared-requires
 tell-cleared-requires c κs = search needs
 
--- src/lib.rt:290:1
 same-length : tie.Need-same-length
 same-length c = search needs
 
--- src/lib.rt:290:1
 returns : tie.Need-returns
 returns c =
     let e = c .before .before .before .before .before .clear-nib .ensures in

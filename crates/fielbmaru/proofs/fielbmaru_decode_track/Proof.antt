@@ -4,23 +4,18 @@ use borrow.Author.Needs.{needs}
 use Rattle.fielbmaru.proofs.fielbmaru_decode_track.Statement.{statement}
 use Rattle.fielbmaru.proofs.fielbmaru_decode_track.Tie as tie
 
--- src/lib.rt:123:9
 decode-track-from-requires : tie.Need-decode-track-from-requires
 decode-track-from-requires c κs = search needs
 
--- src/lib.rt:124:5
 tell-found-requires : tie.Need-tell-found-requires
 tell-found-requires c κs = search needs
 
--- src/lib.rt:108:1
 same-length : tie.Need-same-length
 same-length c = search needs
 
--- src/lib.rt:108:1
 same-length-2 : tie.Need-same-length-2
 same-length-2 c = search needs
 
--- src/lib.rt:108:1
 returns : tie.Need-returns
 returns c =
     let k = c .before .before .before .before .before .before in (

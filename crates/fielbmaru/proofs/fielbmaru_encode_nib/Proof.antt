@@ -4,19 +4,15 @@ use borrow.Author.Needs.{needs}
 use Rattle.fielbmaru.proofs.fielbmaru_encode_nib.Statement.{statement}
 use Rattle.fielbmaru.proofs.fielbmaru_encode_nib.Tie as tie
 
--- src/lib.rt:246:9
 encode-nib-requires : tie.Need-encode-nib-requires
 encode-nib-requires c κs = search needs
 
--- src/lib.rt:247:5
 tell-encoded-requires : tie.Need-tell-encoded-requires
 tell-encoded-requires c κs = search needs
 
--- src/lib.rt:240:1
 same-length : tie.Need-same-length
 same-length c = search needs
 
--- src/lib.rt:240:1
 returns : tie.Need-returns
 returns c =
     let k = c .before .before .before .before in (

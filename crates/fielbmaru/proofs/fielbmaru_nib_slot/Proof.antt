@@ -4,15 +4,12 @@ use borrow.Author.Needs.{needs}
 use Rattle.fielbmaru.proofs.fielbmaru_nib_slot.Statement.{statement}
 use Rattle.fielbmaru.proofs.fielbmaru_nib_slot.Tie as tie
 
--- src/lib.rt:222:9
 nib-slot-requires : tie.Need-nib-slot-requires
 nib-slot-requires c κs = search needs
 
--- src/lib.rt:223:5
 tell-slot-requires : tie.Need-tell-slot-requires
 tell-slot-requires c κs = search needs
 
--- src/lib.rt:215:1
 returns : tie.Need-returns
 returns c =
     let e = c .before .before .before .before .nib-slot .ensures in (

@@ -4,11 +4,9 @@ use borrow.Author.Needs.{needs}
 use Rattle.fielbmaru.proofs.fielbmaru_orbit.Statement.{statement}
 use Rattle.fielbmaru.proofs.fielbmaru_orbit.Tie as tie
 
--- src/lib.rt:188:9
 recover-orbit-requires : tie.Need-recover-orbit-requires
 recover-orbit-requires c κs = search needs
 
--- src/lib.rt:184:1
 returns : tie.Need-returns
 returns c =
     ap length (c .recover-orbit .ensures)

@@ -4,15 +4,12 @@ use borrow.Author.Needs.{needs}
 use Rattle.fielbmaru.proofs.fielbmaru_read_consistent.Statement.{statement}
 use Rattle.fielbmaru.proofs.fielbmaru_read_consistent.Tie as tie
 
--- src/lib.rt:153:14
 decode-sector-consistent-requires : tie.Need-decode-sector-consistent-requires
 decode-sector-consistent-requires c κs = search needs
 
--- src/lib.rt:153:5
 hand-out-requires : tie.Need-hand-out-requires
 hand-out-requires c κs = search needs
 
--- src/lib.rt:148:1
 returns : tie.Need-returns
 returns c =
     let k = c .before .before in (

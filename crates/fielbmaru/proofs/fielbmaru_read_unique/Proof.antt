@@ -4,15 +4,12 @@ use borrow.Author.Needs.{needs}
 use Rattle.fielbmaru.proofs.fielbmaru_read_unique.Statement.{statement}
 use Rattle.fielbmaru.proofs.fielbmaru_read_unique.Tie as tie
 
--- src/lib.rt:144:14
 decode-sector-unique-requires : tie.Need-decode-sector-unique-requires
 decode-sector-unique-requires c κs = search needs
 
--- src/lib.rt:144:5
 hand-out-requires : tie.Need-hand-out-requires
 hand-out-requires c κs = search needs
 
--- src/lib.rt:139:1
 returns : tie.Need-returns
 returns c =
     let k = c .before .before in (

@@ -4,19 +4,15 @@ use borrow.Author.Needs.{needs}
 use Rattle.fielbmaru.proofs.fielbmaru_replace_consistent.Statement.{statement}
 use Rattle.fielbmaru.proofs.fielbmaru_replace_consistent.Tie as tie
 
--- src/lib.rt:186:24
 replace-sector-data-consistent-requires : tie.Need-replace-sector-data-consistent-requires
 replace-sector-data-consistent-requires c κs = search needs
 
--- src/lib.rt:186:5
 number-of-replaced-requires : tie.Need-number-of-replaced-requires
 number-of-replaced-requires c κs = search needs
 
--- src/lib.rt:181:1
 same-length : tie.Need-same-length
 same-length c = search needs
 
--- src/lib.rt:181:1
 returns : tie.Need-returns
 returns c =
     let k = c .before .before .before in (

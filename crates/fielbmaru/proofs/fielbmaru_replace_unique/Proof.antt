@@ -4,19 +4,15 @@ use borrow.Author.Needs.{needs}
 use Rattle.fielbmaru.proofs.fielbmaru_replace_unique.Statement.{statement}
 use Rattle.fielbmaru.proofs.fielbmaru_replace_unique.Tie as tie
 
--- src/lib.rt:177:24
 replace-sector-data-unique-requires : tie.Need-replace-sector-data-unique-requires
 replace-sector-data-unique-requires c κs = search needs
 
--- src/lib.rt:177:5
 number-of-replaced-requires : tie.Need-number-of-replaced-requires
 number-of-replaced-requires c κs = search needs
 
--- src/lib.rt:172:1
 same-length : tie.Need-same-length
 same-length c = search needs
 
--- src/lib.rt:172:1
 returns : tie.Need-returns
 returns c =
     let k = c .before .before .before in (

@@ -4,23 +4,18 @@ use borrow.Author.Needs.{needs}
 use Rattle.fielbmaru.proofs.fielbmaru_scan.Statement.{statement}
 use Rattle.fielbmaru.proofs.fielbmaru_scan.Tie as tie
 
--- src/lib.rt:90:9
 scan-sector-records-requires : tie.Need-scan-sector-records-requires
 scan-sector-records-requires c κs = search needs
 
--- src/lib.rt:91:5
 tell-scanned-requires : tie.Need-tell-scanned-requires
 tell-scanned-requires c κs = search needs
 
--- src/lib.rt:75:1
 same-length : tie.Need-same-length
 same-length c = search needs
 
--- src/lib.rt:75:1
 same-length-2 : tie.Need-same-length-2
 same-length-2 c = search needs
 
--- src/lib.rt:75:1
 returns : tie.Need-returns
 returns c =
     let k = c .before .before .before .before .before .before in (
