@@ -1,21 +1,17 @@
 -- The laws that the slips break. Assumes nothing.
-use Prim.Native.Nat.{ℕ, zero, suc, _+_, _-_, _≤_, _<_}
-use mathlib.Core.Path.{_≡_, refl, sym, ap, _∙_, subst}
-use mathlib.Core.Logic.{_≢_}
-use mathlib.Core.Bool.{Bool, true, _&&_}
+use Prim.Native.Nat.{ℕ, suc, _+_, _-_, _≤_, _<_}
+use mathlib.Core.Path.{_≡_, refl, ap, _∙_}
+use mathlib.Core.Bool.{Bool}
 use native.Mathlib.Omega.{arith}
-use lib.Dec.{eqb, ltb, leb}
-use lib.Bits.{bitXor}
 use Rattle.base.specs.Choice.{pick}
 use Rattle.base.proofs.Tests.{eqb-yes, ltb-yes}
 use Rattle.geometry.specs.Zones.{sectorsOf}
 use Rattle.gcr.specs.Symbols.{Bytes}
 use Rattle.track.specs.Blocks.{headerWith, headerSum}
-use Rattle.scan.specs.declared.SyncEnd.{SyncEnd}
 use Rattle.scan.specs.declared.SyncEnd.the-variants.{At, Nothing}
 use Rattle.scan.specs.Sync.{syncFrom, syncEnd}
 use Rattle.scan.specs.Scan.{nextSync}
-use Rattle.scan.specs.Visit.{DataFound, HeaderFound, TrueHeader, BadHeader, NoHeader, FalseHeader, byHeader}
+use Rattle.scan.specs.Visit.{DataFound, TrueHeader, byHeader}
 use Rattle.scan.proofs.SyncLaws.{at-hit, at-reset, passed}
 use Rattle.scan.proofs.SameBits.{sync-same}
 use Rattle.cases.specs.Slips.{Ones, Slips}

@@ -4,22 +4,23 @@
 --     step-..         the search over a chunk: all ones, a sync end in it, or none
 -- Assumes nothing.
 use mathlib.Core.Path.{_≡_, refl, sym, ap, ap₂, _∙_, subst}
-use mathlib.Core.Logic.{_≢_, _⊎_, inl, inr, ⊎-elim}
+use mathlib.Core.Logic.{_≢_, _⊎_, inl, inr}
 use mathlib.Core.Bool.{Bool}
 use mathlib.Core.List.{List}
-use Prim.Native.Nat.{ℕ, zero, suc, _+_, _-_, _*_, _/_, _%_, _^_, _≤_, _<_}
+use Prim.Native.Nat.{ℕ, zero, suc, _+_, _-_, _*_, _/_, _%_, _≤_, _<_}
 use native.Mathlib.Omega.{arith}
 use native.Mathlib.Decide.{ℕ-discrete, decLe}
-use native.Mathlib.Nat.{mod-lt, mod-add-mod, mod-eq-of-lt}
+use native.Mathlib.Nat.{mod-lt, mod-add-mod}
 use lib.Dec.{T, eqb, ltb, eqb→eq, ltb→lt}
 use lib.Count.{leadingZeros, trailingZeros, trailing-le}
 use lib.ListN.{length, getD}
 use Rattle.base.specs.Bits.{bitOf, bitIn, gather}
 use Rattle.base.specs.Choice.{pick}
 use Rattle.base.proofs.Tests.{both, both-l, both-r, allBelow, allBelow→, eqb-yes, eqb-no, leb-yes, leb-no}
-use Rattle.base.proofs.Gathered.{gather-lt, gather-bit, gather-byte}
+use Rattle.base.proofs.Gathered.{gather-lt, gather-bit}
 use Rattle.ring.specs.Bit.{bitAt}
 use Rattle.ring.proofs.RingLaws.{bit-lt}
+use Rattle.ring.proofs.WholeBytes.{byte-at}
 use Rattle.scan.specs.declared.Chunk.{Chunk}
 use Rattle.scan.specs.declared.SyncEnd.the-variants.{At}
 use Rattle.scan.specs.Sync.{run, syncFrom}
@@ -98,7 +99,8 @@ module _ (b : ℕ) (l : b < 255) where
 
   pub front-ones : (j : ℕ) → j < front b → bitsOf b j ≡ 1
   front-ones j h =
-      eqb→eq (bitsOf b j) 1 (allBelow→ (front b) (λ i. eqb (bitsOf b i) 1) (both-l (allBelow (front b) (λ i. eqb (bitsOf b i) 1)) _ tail1) j h)
+      eqb→eq (bitsOf b j) 1
+      (allBelow→ (front b) (λ i. eqb (bitsOf b i) 1) (both-l (allBelow (front b) (λ i. eqb (bitsOf b i) 1)) _ tail1) j h)
 
   pub front-zero : bitsOf b (front b) ≡ 0
   front-zero = eqb→eq (bitsOf b (front b)) 0 (both-l (eqb (bitsOf b (front b)) 0) _ tail2)
@@ -211,14 +213,9 @@ module _ (x : ℕ → ℕ) (c n s off w b : ℕ) (ch : Chunked x (s + off) w b) 
 -- the byte that begins at a place of a ring
 pub whole-byte : (r : List ℕ) (at : ℕ) → at % 8 ≡ 0 → at < 8 * length r → getD r (at / 8) 0 < 256
     → gather (bitAt r) at 8 ≡ getD r (at / 8) 0
-unfolding bitAt
 whole-byte r at z l byte =
-    gather-byte (bitAt r) at (getD r (at / 8) 0) byte
-    (λ j h.
-    let e : (at + j) % (8 * length r) ≡ at + j = mod-eq-of-lt (omega arith) in
-    let d : (at + j) / 8 ≡ at / 8 = omega arith in
-    let q : 7 - (at + j) % 8 ≡ 7 - j = omega arith in
-    rw (e, d, q))
+    let e : at ≡ 8 * (at / 8) = omega arith in
+    ap (λ (p : ℕ). gather (bitAt r) p 8) e ∙ byte-at r (at / 8) (omega arith) byte
 
 -- ---- the chunk of a ring at place p, which is place `at` of its circle, with so many places left
 pub record ChunkIs (r : List ℕ) (p at left w b : ℕ) : Type 0 where

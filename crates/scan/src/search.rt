@@ -1,6 +1,6 @@
-// What a search for a sync end takes at a step, and where the next one is.
+// What a search for a sync end takes at a step.
 ghost use mathlib.Core.Path.{_≡_};
-ghost use Prim.Native.Nat.{_+_, _*_, _%_, _≤_, _<_};
+ghost use Prim.Native.Nat.{_*_, _<_};
 ghost use lib.ListN.{length};
 ghost use Rattle.ring.specs.Bit.{IsRing, bitAt};
 ghost use Rattle.scan.specs.Helpers.{oneBit, chunkAt};
@@ -36,15 +36,4 @@ pub fn chunk_at(ring: &[u8], at: usize, left: usize) -> Chunk
         width: 8,
         bits: ring[at / 8],
     }
-}
-
-// A place of a circle of `size` places, counted round: no division.
-pub fn wrap(place: usize, size: usize) -> usize
-    requires { ⌜ (0 < size) × (place ≤ size) ⌝ }
-    ensures { λ r. ⌜ (r ≡ place % size) × (r < size) ⌝ }
-{
-    if place == size {
-        return 0;
-    }
-    place
 }

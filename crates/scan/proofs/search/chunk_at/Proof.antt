@@ -1,6 +1,5 @@
-use Prim.Native.Nat.{ℕ, _-_, _*_, _/_, _%_, _^_}
-use mathlib.Core.Path.{_≡_, sym, ap, _∙_}
-use native.Mathlib.Omega.{arith}
+use Prim.Native.Nat.{_%_}
+use mathlib.Core.Path.{_∙_}
 use Rattle.base.proofs.Tests.{eqb-yes, eqb-no, leb-yes, leb-no}
 use borrow.Author.Needs.{needs}
 use Rattle.scan.proofs.ChunkLaws.{whole-byte}

@@ -1,11 +1,11 @@
 use Prim.Native.Nat.{ℕ, _%_, _<_}
-use mathlib.Core.Path.{_≡_, sym, ap, _∙_}
+use mathlib.Core.Path.{sym, ap, _∙_}
 use native.Mathlib.Nat.{mod-self, mod-eq-of-lt}
 use native.Mathlib.Omega.{arith}
-use Rattle.scan.proofs.search.wrap.Statement.{statement}
-use Rattle.scan.proofs.search.wrap.Tie as tie
-use Rattle.scan.proofs.search.wrap.Reads as reads
-use Rattle.scan.proofs.search.wrap.Lts as lts
+use Rattle.ring.proofs.wrap.Statement.{statement}
+use Rattle.ring.proofs.wrap.Tie as tie
+use Rattle.ring.proofs.wrap.Reads as reads
+use Rattle.ring.proofs.wrap.Lts as lts
 
 -- src/lib.rt:111:9
 returns : tie.Need-returns
