@@ -113,7 +113,7 @@ fn track_line(number: u8) -> String {
     let track = Track::new(number, &mut draw);
     let mut counts = Counts::default();
     let mut sum = Sum::new();
-    for k in 0..1296 {
+    for k in 0..864 {
         let sector = (usize::from(number) + 5 * (k / 108)) % track.sectors.len();
         let place = track.sectors[sector].start + EDGES[k / 3 % 6] + track.bits() - 1 + k % 3;
         let length = lengths(track.bits())[k / 18 % 6];

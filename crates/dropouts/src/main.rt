@@ -257,7 +257,7 @@ fn slot_bit(track: u8, n: usize) -> usize
 
 // Where the stretch of case k starts, counted on past the ring's end: one bit before, at or after an edge of a sector.
 fn place_of(track: u8, k: usize) -> usize
-    requires { ⌜ k < 1296 ⌝ }
+    requires { ⌜ k < 864 ⌝ }
     ensures { λ r. ⌜ r < 200000 ⌝ }
 {
     let bits = ring_bits(track);
@@ -290,7 +290,7 @@ fn start_of(track: u8, k: usize, state: u32) -> usize {
 
 // Case k of a track.
 fn one_case(c: Counts, track: u8, payloads: &[u8], k: usize) -> Counts
-    requires { ⌜ k < 1296 ⌝ }
+    requires { ⌜ k < 864 ⌝ }
 {
     let mut next = c;
     let state = draw::step(c.state);
@@ -308,7 +308,7 @@ fn run(track: u8) -> Counts {
     let mut payloads = [0u8; 5376];
     let seed = draw::fill(&mut payloads, track as u32);
     let mut c = no_counts(seed);
-    for k in 0..1296usize {
+    for k in 0..864usize {
         c = one_case(c, track, &payloads, k);
     }
     c

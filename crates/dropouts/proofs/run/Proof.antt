@@ -4,10 +4,10 @@ use Rattle.dropouts.proofs.run.Statement.{statement}
 use Rattle.dropouts.proofs.run.Tie as tie
 
 abbrev Inv-loop : tie.InvT-loop
-Inv-loop track payloads seed c₀ k₀ c k = k ≤ 1296
+Inv-loop track payloads seed c₀ k₀ c k = k ≤ 864
 
 abbrev μ-loop : tie.MeasureT-loop
-μ-loop track payloads seed c₀ k₀ c k = 1296 - k
+μ-loop track payloads seed c₀ k₀ c k = 864 - k
 
 slice-aggregate-fill : tie.Need-slice-aggregate-fill Inv-loop μ-loop
 slice-aggregate-fill c = search needs
