@@ -1,5 +1,6 @@
 // The original beside the port: its files, included unchanged, and a program that asks them.
 //   oracle groups               the lines of vectors_groups
+//   oracle dropouts             the lines of dropouts
 //   oracle cases KIND [SEED [SCALE]]   rows that describe cases, for a program's standard input
 //   oracle answer               reads rows, writes the original's answers
 // compare/README.md describes rows and answers.
@@ -15,6 +16,7 @@ mod cases_scan;
 mod cases_sector;
 mod cases_slips;
 mod draw;
+mod dropouts;
 mod groups;
 mod machine;
 mod rows;
@@ -191,6 +193,7 @@ fn main() {
     let words: Vec<String> = std::env::args().collect();
     let out = match words.get(1).map(String::as_str) {
         Some("groups") => groups::lines(),
+        Some("dropouts") => dropouts::lines(),
         Some("cases") => {
             let kind = words.get(2).expect("cases KIND [SEED [SCALE]]");
             cases::of_kind(kind, number(words.get(3), 1), number(words.get(4), 1))
@@ -201,7 +204,7 @@ fn main() {
             machine::run(&rows)
         }
         _ => {
-            eprintln!("oracle groups | oracle cases KIND [SEED [SCALE]] | oracle answer");
+            eprintln!("oracle groups | oracle dropouts | oracle cases KIND [SEED [SCALE]] | oracle answer");
             std::process::exit(2);
         }
     };
