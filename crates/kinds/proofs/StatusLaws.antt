@@ -6,27 +6,31 @@ use Prim.Native.Nat.{ℕ, _+_, _-_, _*_, _/_, _≤_, _<_}
 use native.Mathlib.Omega.{arith}
 use native.Mathlib.Nat.{sub-zero}
 use native.Mathlib.Decide.{decLt}
+use lib.Dec.{leb}
 use lib.ListN.{length, getD, take, drop, replicate, length-replicate, List·getD-eq-default}
 use lib.Seq.{drop-length}
 use Rattle.base.specs.Choice.{pick}
 use Rattle.base.specs.Lists.{tab}
 use Rattle.base.specs.Refusals.{noRoom}
 use Rattle.base.proofs.Tests.{eqb-no, ltb-yes, ltb-no, leb-yes, leb-no}
-use Rattle.base.proofs.Lists.{getD-any}
-use Rattle.geometry.specs.Zones.{sectorsOf}
+use Rattle.base.proofs.Lists.{getD-any, length-tab}
+use Rattle.base.proofs.Picks.{pick-ind}
+use Rattle.geometry.specs.Zones.{within, sectorsOf}
 use Rattle.geometry.proofs.ZoneLaws.{sectors-of}
 use Rattle.geometry.specs.D64.{d64Place}
 use Rattle.scan.specs.Scan.{records}
-use Rattle.scan.specs.Reading.{readStatuses}
+use Rattle.scan.specs.Reading.{readSector, readStatuses}
 use Rattle.scan.specs.Answers.{trackStatuses}
 use Rattle.scan.proofs.ScanLaws.{few-records}
 use Rattle.scan.proofs.Refusing.{room, read-empty, read-long}
 use Rattle.image.specs.declared.Table.{Table}
 use Rattle.image.specs.G64.{g64Table}
 use Rattle.image.proofs.TableLaws.{g64-inside}
+use Rattle.nib.specs.Slots.{ringOf}
 use Rattle.kinds.specs.declared.Kind.{Kind}
+use Rattle.kinds.specs.declared.Kind.the-variants.{D64, G64, Nib, Unknown}
 use Rattle.kinds.specs.Kinds.{kindOf}
-use Rattle.kinds.specs.Statuses.{noTrack, errorByte, d64Status, d64Statuses, ringStatuses, g64Ring, statusesBy, statusesOf}
+use Rattle.kinds.specs.Statuses.{noTrack, errorByte, d64Status, d64Statuses, halfOf, ringStatuses, g64Ring, statusesBy, statusesOf}
 use Rattle.kinds.specs.Statuses.{statusesNumber, statusesAfter}
 
 -- ---- D64
@@ -147,3 +151,34 @@ module _ (image : List ℕ) (track : ℕ) where
         → part ≡ statusesOf image track → part ++ drop (count - 0) statuses ≡ statusesAfter image track statuses
     unfolding statusesAfter
     room-after count part c h e = rw (leb-yes (sectorsOf track) (length statuses) h, e, sub-zero, c)
+
+-- ---- a track has as many statuses as sectors
+none-count : (track : ℕ) → length (noTrack track) ≡ sectorsOf track
+none-count track = length-replicate (sectorsOf track) 0
+
+abbrev Counts : ℕ → List ℕ → Type 0
+Counts track l = length l ≡ sectorsOf track
+
+ring-count : (ring : List ℕ) (track : ℕ) → Counts track (ringStatuses ring track)
+unfolding ringStatuses
+ring-count ring track =
+    pick-ind (Counts track) (within 1 65535 (length ring)) (readStatuses ring track 0) (noTrack track)
+    (λ e. length-tab (sectorsOf track) (λ j. readSector ring track 0 j .status)) (λ e. none-count track)
+
+d64-count : (image : List ℕ) (highest track : ℕ) → Counts track (d64Statuses image highest track)
+unfolding d64Statuses
+d64-count image highest track =
+    pick-ind (Counts track) (leb track highest) (tab (sectorsOf track) (d64Status image highest track)) (noTrack track)
+    (λ e. length-tab (sectorsOf track) (d64Status image highest track)) (λ e. none-count track)
+
+kind-count : (image : List ℕ) (track : ℕ) (k : Kind) → Counts track (statusesBy image track k)
+kind-count image track (D64 n) = d64-count image n track
+kind-count image track G64 = ring-count (g64Ring image (halfOf track)) track
+kind-count image track Nib = ring-count (ringOf image (halfOf track)) track
+kind-count image track Unknown = none-count track
+
+pub status-count : (image : List ℕ) (track : ℕ) → length (statusesOf image track) ≡ sectorsOf track
+unfolding statusesOf
+status-count image track =
+    pick-ind (Counts track) (within 1 42 track) (statusesBy image track (kindOf image)) (noTrack track)
+    (λ e. kind-count image track (kindOf image)) (λ e. none-count track)

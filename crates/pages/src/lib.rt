@@ -27,6 +27,13 @@ pub fn counted(page: &mut [u8], at: usize, word: &[u8], n: u64) -> usize
     number(page, behind, n)
 }
 
+// A refusal by its number.
+pub fn refused(page: &mut [u8], at: usize, n: u8) -> usize
+    ensures { λ r. ⌜ sheet (now (page .exit)) r ≡ writes (sheet (now (page .entry)) at) (refusedText n ∷ []) ⌝ }
+{
+    lines::refused(page, at, n)
+}
+
 // The digits of a number.
 pub fn decimal(page: &mut [u8], at: usize, n: u64) -> usize
     ensures { λ r. ⌜ sheet (now (page .exit)) r ≡ writes (sheet (now (page .entry)) at) (decimalText n ∷ []) ⌝ }
