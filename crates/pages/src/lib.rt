@@ -42,3 +42,11 @@ pub fn decimal(page: &mut [u8], at: usize, n: u64) -> usize
     let end = text::put_decimal(&mut piece, 0, n);
     lines::words(page, at, lines::so_far(&piece, end))
 }
+
+// A word and the digits of a number.
+pub fn valued(page: &mut [u8], at: usize, word: &[u8], n: u64) -> usize
+    ensures { λ r. ⌜ sheet (now (page .exit)) r ≡ writes (sheet (now (page .entry)) at) (now (word .entry) ∷ decimalText n ∷ []) ⌝ }
+{
+    let behind = words(page, at, word);
+    decimal(page, behind, n)
+}
