@@ -14,13 +14,13 @@ use Rattle.base.proofs.Tests.{eqb-yes, eqb-no, leb-yes}
 use Rattle.geometry.specs.Zones.{sectorsOf}
 use Rattle.geometry.proofs.ZoneLaws.{sectors-of}
 use Rattle.lines.specs.Line.{numberText, refusedText}
-use Rattle.pages.specs.Page.{ascii, together, Page, writes}
+use Rattle.pages.specs.Page.{ascii, Text, together, Page, writes}
 use Rattle.pages.proofs.PageLaws.{nothing, then}
 use Rattle.reclaim.specs.declared.Outcome.{Outcome}
 use Rattle.reclaim.specs.declared.Outcome.the-variants.{Cleared, Refused}
-use Rattle.kinds.specs.Statuses.{statusesOf, statusesAfter}
+use Rattle.kinds.specs.Statuses.{statusesOf, statusesAfter, isShown}
 use Rattle.kinds.proofs.StatusLaws.{status-count}
-use Rattle.desk.specs.Lines.{outcomeText, unreadAt, unread, missingText, tally, trackLine, trackText}
+use Rattle.desk.specs.Lines.{outcomeText, unreadAt, unread, missingText, tally, trackLine, ifShown}
 
 -- ---- what clearing answered
 pub cleared-put : (p q r s : Page) (outcome : Outcome) (free changed : ℕ) → outcome ≡ Cleared free changed
@@ -105,3 +105,12 @@ statuses-read image before after track count h e c =
     let s = sectors-of track in
     rw (e, leb-yes (sectorsOf track) (length before) (omega arith), c)
     (take-at (statusesOf image track) (drop (sectorsOf track) before) (sectorsOf track) (status-count image track))
+
+-- ---- tracks to speak of
+module _ (p : Page) (text : ℕ → List ℕ → Text) (track : ℕ) (statuses : List ℕ) where
+  pub if-shown : (q : Page) → isShown track statuses ≡ true → q ≡ writes p (text track statuses) → q ≡ writes p
+      (ifShown text track statuses)
+  if-shown q e f = rw e f
+
+  pub not-shown : isShown track statuses ≡ false → p ≡ writes p (ifShown text track statuses)
+  not-shown e = rw e (nothing p)

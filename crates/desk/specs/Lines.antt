@@ -10,7 +10,8 @@ use Rattle.lines.specs.Line.{numberText, refusedText}
 use Rattle.pages.specs.Page.{ascii, Text, together}
 use Rattle.reclaim.specs.declared.Outcome.{Outcome}
 use Rattle.reclaim.specs.declared.Outcome.the-variants.{Cleared, Refused}
-use Rattle.kinds.specs.Statuses.{statusesOf}
+use Rattle.kinds.specs.Statuses.{statusesOf, isShown}
+use Rattle.picture.specs.Svg.{svgTrack}
 
 -- what clearing answered
 abbrev pub outcomeText : Outcome → Text
@@ -34,11 +35,19 @@ tally word statuses =
     word ∷ numberText (countOf 1 statuses) ∷ ascii " of" ∷ numberText (length statuses)
     ∷ pick (eqb (countOf 1 statuses) (length statuses)) [] (missingText statuses)
 
--- the line of a track, by its statuses and of an image
+-- the line of a track, by its statuses
 unfoldable pub trackLine : ℕ → List ℕ → Text
 trackLine track statuses =
     ascii "track" ∷ numberText track
     ∷ pick (anyNonzero statuses) (tally (ascii " reads") statuses ++ (ascii "\n" ∷ [])) (ascii " absent\n" ∷ [])
 
+-- a text by a track's statuses, where the track is one to speak of
+abbrev pub ifShown : (ℕ → List ℕ → Text) → ℕ → List ℕ → Text
+ifShown text track statuses = pick (isShown track statuses) (text track statuses) []
+
+-- the line of a track of an image, and the arcs of the picture
 abbrev pub trackText : List ℕ → ℕ → Text
-trackText image track = trackLine track (statusesOf image track)
+trackText image track = ifShown trackLine track (statusesOf image track)
+
+abbrev pub arcsText : List ℕ → ℕ → Text
+arcsText image track = ifShown svgTrack track (statusesOf image track)

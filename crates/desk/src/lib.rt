@@ -6,7 +6,9 @@ ghost use Prim.Native.Nat.{_<_};
 ghost use lib.ListN.{length};
 ghost use Rattle.base.specs.Lists.{countOf};
 ghost use Rattle.pages.specs.Page.{sheet, writes};
-ghost use Rattle.desk.specs.Lines.{outcomeText, unreadAt, unread, missingText, tally, trackLine, trackText};
+ghost use Rattle.desk.specs.Lines.{outcomeText, unreadAt, unread, missingText, tally};
+ghost use Rattle.desk.specs.Lines.{trackLine, ifShown, trackText, arcsText};
+ghost use Rattle.picture.specs.Svg.{svgTrack};
 ghost use Rattle.desk.specs.Slots.{slotText};
 use nib::NibSlot;
 use reclaim::Outcome;
@@ -76,7 +78,8 @@ fn put_missing(page: &mut [u8], at: usize, statuses: &[u8]) -> usize
 
 // How many sectors read, of how many, and those that do not.
 fn put_tally(page: &mut [u8], at: usize, word: &[u8], statuses: &[u8]) -> usize
-    ensures { λ r. ⌜ sheet (now (page .exit)) r ≡ writes (sheet (now (page .entry)) at) (tally (now (word .entry)) (now (statuses .entry))) ⌝ }
+    ensures { λ r. ⌜ sheet (now (page .exit)) r ≡ writes (sheet (now (page .entry)) at)
+        (tally (now (word .entry)) (now (statuses .entry))) ⌝ }
 {
     let count = count_reading(statuses);
     let a = pages::counted(page, at, word, count as u64);
@@ -99,6 +102,15 @@ fn put_statuses(page: &mut [u8], at: usize, track: u8, statuses: &[u8]) -> usize
     pages::words(page, a, b" absent\n")
 }
 
+fn put_if_shown(page: &mut [u8], at: usize, track: u8, statuses: &[u8]) -> usize
+    ensures { λ r. ⌜ sheet (now (page .exit)) r ≡ writes (sheet (now (page .entry)) at) (ifShown trackLine track (now (statuses .entry))) ⌝ }
+{
+    if kinds::is_shown(track, statuses) {
+        return put_statuses(page, at, track, statuses);
+    }
+    at
+}
+
 // The line of a track of an image.
 pub fn put_track(page: &mut [u8], at: usize, image: &[u8], track: u8) -> usize
     ensures { λ r. ⌜ sheet (now (page .exit)) r ≡ writes (sheet (now (page .entry)) at) (trackText (now (image .entry)) track) ⌝ }
@@ -106,7 +118,26 @@ pub fn put_track(page: &mut [u8], at: usize, image: &[u8], track: u8) -> usize
     let mut statuses = [0u8; 21];
     kinds::track_statuses(image, track, &mut statuses);
     let count = geometry::sectors_per_track(track) as usize;
-    put_statuses(page, at, track, lines::so_far(&statuses, count))
+    put_if_shown(page, at, track, lines::so_far(&statuses, count))
+}
+
+fn put_arcs_if_shown(page: &mut [u8], at: usize, track: u8, statuses: &[u8]) -> usize
+    ensures { λ r. ⌜ sheet (now (page .exit)) r ≡ writes (sheet (now (page .entry)) at) (ifShown svgTrack track (now (statuses .entry))) ⌝ }
+{
+    if kinds::is_shown(track, statuses) {
+        return picture::put_svg_track(page, at, statuses, track);
+    }
+    at
+}
+
+// The arcs of a track of an image, for the picture.
+pub fn put_arcs(page: &mut [u8], at: usize, image: &[u8], track: u8) -> usize
+    ensures { λ r. ⌜ sheet (now (page .exit)) r ≡ writes (sheet (now (page .entry)) at) (arcsText (now (image .entry)) track) ⌝ }
+{
+    let mut statuses = [0u8; 21];
+    kinds::track_statuses(image, track, &mut statuses);
+    let count = geometry::sectors_per_track(track) as usize;
+    put_arcs_if_shown(page, at, track, lines::so_far(&statuses, count))
 }
 
 // The line of a slot of a NIB file; nothing where the file has no such slot.

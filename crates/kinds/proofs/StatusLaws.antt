@@ -1,6 +1,7 @@
 -- The statuses of a track: each way that the code goes.
 -- Assumes nothing.
 use mathlib.Core.Path.{_≡_, refl, ap, sym, _∙_}
+use mathlib.Core.Bool.{Bool, true}
 use mathlib.Core.List.{List, [], _++_, append-nil}
 use Prim.Native.Nat.{ℕ, _+_, _-_, _*_, _/_, _≤_, _<_}
 use native.Mathlib.Omega.{arith}
@@ -10,6 +11,7 @@ use lib.Dec.{leb}
 use lib.ListN.{length, getD, take, drop, replicate, length-replicate, List·getD-eq-default}
 use lib.Seq.{drop-length}
 use Rattle.base.specs.Choice.{pick}
+use Rattle.base.specs.Bytes.{anyNonzero}
 use Rattle.base.specs.Lists.{tab}
 use Rattle.base.specs.Refusals.{noRoom}
 use Rattle.base.proofs.Tests.{eqb-no, ltb-yes, ltb-no, leb-yes, leb-no}
@@ -31,7 +33,7 @@ use Rattle.kinds.specs.declared.Kind.{Kind}
 use Rattle.kinds.specs.declared.Kind.the-variants.{D64, G64, Nib, Unknown}
 use Rattle.kinds.specs.Kinds.{kindOf}
 use Rattle.kinds.specs.Statuses.{noTrack, errorByte, d64Status, d64Statuses, halfOf, ringStatuses, g64Ring, statusesBy, statusesOf}
-use Rattle.kinds.specs.Statuses.{statusesNumber, statusesAfter}
+use Rattle.kinds.specs.Statuses.{statusesNumber, statusesAfter, isShown}
 
 -- ---- D64
 module _ (image : List ℕ) (highest track sector : ℕ) where
@@ -103,7 +105,8 @@ module _ (ring payloads part : List ℕ) (track : ℕ) (p : 5376 ≤ length payl
 
 -- ---- the ring of a half-track
 pub ring-of : (image : List ℕ) (half : ℕ) (table : Table) → table ≡ g64Table image
-    → take (getD (table .starts) half 0 + getD (table .lengths) half 0 - getD (table .starts) half 0) (drop (getD (table .starts) half 0) image)
+    → take (getD (table .starts) half 0 + getD (table .lengths) half 0 - getD (table .starts) half 0)
+    (drop (getD (table .starts) half 0) image)
     ≡ g64Ring image half
 ring-of image half table e =
     let w : getD (table .starts) half 0 + getD (table .lengths) half 0 - getD (table .starts) half 0 ≡ getD (table .lengths) half 0
@@ -182,3 +185,13 @@ unfolding statusesOf
 status-count image track =
     pick-ind (Counts track) (within 1 42 track) (statusesBy image track (kindOf image)) (noTrack track)
     (λ e. kind-count image track (kindOf image)) (λ e. none-count track)
+
+-- ---- tracks to speak of
+module _ (track : ℕ) (statuses : List ℕ) where
+  pub shown-low : track ≤ 35 → true ≡ isShown track statuses
+  unfolding isShown
+  shown-low h = rw (leb-yes track 35 h)
+
+  pub shown-high : (any : Bool) → any ≡ anyNonzero statuses → 35 < track → any ≡ isShown track statuses
+  unfolding isShown
+  shown-high any e h = rw (leb-no track 35 h) e

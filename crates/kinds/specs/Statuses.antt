@@ -1,10 +1,12 @@
 -- The statuses of a track's sectors in an image of any kind: 1 for one that reads, 2 for one that does not; all 0 where the image has
 -- no such track.
 use Prim.Native.Nat.{ℕ, _+_, _-_, _*_, _/_}
+use mathlib.Core.Bool.{Bool, _||_}
 use mathlib.Core.List.{List, _++_}
 use lib.Dec.{leb, ltb}
 use lib.ListN.{length, getD, take, drop, replicate}
 use Rattle.base.specs.Choice.{pick}
+use Rattle.base.specs.Bytes.{anyNonzero}
 use Rattle.base.specs.Lists.{tab}
 use Rattle.base.specs.Refusals.{noRoom}
 use Rattle.geometry.specs.Zones.{within, sectorsOf}
@@ -57,3 +59,7 @@ statusesNumber track statuses = pick (leb (sectorsOf track) (length statuses)) 0
 unfoldable pub statusesAfter : List ℕ → ℕ → List ℕ → List ℕ
 statusesAfter image track statuses =
     pick (leb (sectorsOf track) (length statuses)) (statusesOf image track ++ drop (sectorsOf track) statuses) statuses
+
+-- a disk has 35 tracks; one above is spoken of only where the image has it
+unfoldable pub isShown : ℕ → List ℕ → Bool
+isShown track statuses = leb track 35 || anyNonzero statuses

@@ -9,7 +9,7 @@ ghost use Rattle.image.specs.G64.{isG64};
 ghost use Rattle.reclaim.specs.Contracts.{answer};
 ghost use Rattle.kinds.specs.Kinds.{kindOf, catalogueFault, faultOf, cleared};
 ghost use Rattle.kinds.specs.Statuses.{errorByte, d64Status, d64Statuses, halfOf, ringStatuses, g64Ring};
-ghost use Rattle.kinds.specs.Statuses.{statusesBy, statusesOf, statusesNumber, statusesAfter};
+ghost use Rattle.kinds.specs.Statuses.{statusesBy, statusesOf, statusesNumber, statusesAfter, isShown};
 use geometry::TrackCount;
 use nib::Pairs;
 use reclaim::Outcome;
@@ -223,4 +223,14 @@ pub fn track_statuses(image: &[u8], track: u8, statuses: &mut [u8]) -> u8
     }
     put_statuses(image, track, &mut statuses[0..count]);
     0
+}
+
+// Is a track with these statuses one to speak of? A disk has 35; one above only where the image has it.
+pub fn is_shown(track: u8, statuses: &[u8]) -> bool
+    ensures { λ r. ⌜ r ≡ isShown track (now (statuses .entry)) ⌝ }
+{
+    if track <= 35 {
+        return true;
+    }
+    base::any_nonzero(statuses)
 }

@@ -60,6 +60,6 @@ arc-put p q r s t track statuses j e f g h =
     (then r s t (ringText track (length statuses)) (dashText track (length statuses) j) g h))
 
 pub all-arcs : (p q : Page) (track : ℕ) (statuses : List ℕ) (j : ℕ) → j ≡ length statuses
-    → q ≡ writes p (together j (arcText track statuses)) → q ≡ writes p (svgTrack statuses track)
+    → q ≡ writes p (together j (arcText track statuses)) → q ≡ writes p (svgTrack track statuses)
 unfolding svgTrack
 all-arcs p q track statuses j n e = rw (← n) e

@@ -44,5 +44,5 @@ arcText track statuses j =
     ascii "<circle class=\"" ∷ className (getD statuses j 0)
     ∷ (ringText track (length statuses) ++ dashText track (length statuses) j)
 
-unfoldable pub svgTrack : List ℕ → ℕ → Text
-svgTrack statuses track = together (length statuses) (arcText track statuses)
+unfoldable pub svgTrack : ℕ → List ℕ → Text
+svgTrack track statuses = together (length statuses) (arcText track statuses)

@@ -89,7 +89,7 @@ fn put_arc(page: &mut [u8], at: usize, track: u8, statuses: &[u8], j: usize) -> 
 
 // The arcs of a track, by the statuses of its sectors: 1 reads, 0 absent, any other missing.
 pub fn put_svg_track(page: &mut [u8], at: usize, statuses: &[u8], track: u8) -> usize
-    ensures { λ r. ⌜ sheet (now (page .exit)) r ≡ writes (sheet (now (page .entry)) at) (svgTrack (now (statuses .entry)) track) ⌝ }
+    ensures { λ r. ⌜ sheet (now (page .exit)) r ≡ writes (sheet (now (page .entry)) at) (svgTrack track (now (statuses .entry))) ⌝ }
 {
     let mut behind = at;
     let mut j: usize = 0;

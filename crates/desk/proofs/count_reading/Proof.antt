@@ -30,16 +30,22 @@ loop-less c = omega arith
 
 loop-again : tie.Need-loop-again Inv-loop μ-loop
 loop-again c =
-    let l = c .before .before .before .loop in
-    (omega arith, count-yes (c .before .before .before .before .args .statuses .now) (l .j) (l .count) (omega arith) (omega arith) (l .inv .1) (c .if1 .taken))
+    let l = c .before .before .before .loop in (
+      omega arith,
+      count-yes (c .before .before .before .before .args .statuses .now) (l .j) (l .count) (omega arith) (omega arith)
+          (l .inv .1) (c .if1 .taken),
+    )
 
 loop-less-2 : tie.Need-loop-less-2 Inv-loop μ-loop
 loop-less-2 c = omega arith
 
 loop-again-2 : tie.Need-loop-again-2 Inv-loop μ-loop
 loop-again-2 c =
-    let l = c .before .before .before .loop in
-    (omega arith, count-no (c .before .before .before .before .args .statuses .now) (l .j) (l .count) (omega arith) (omega arith) (l .inv .1) (c .if1 .left))
+    let l = c .before .before .before .loop in (
+      omega arith,
+      count-no (c .before .before .before .before .args .statuses .now) (l .j) (l .count) (omega arith) (omega arith)
+          (l .inv .1) (c .if1 .left),
+    )
 
 returns : tie.Need-returns Inv-loop μ-loop
 returns c =

@@ -41,15 +41,21 @@ same-length c = search needs
 
 returns : tie.Need-returns
 returns c =
-    cleared-put _ _ _ _ (c .before .before .before .before .before .before .before .before .before .before .before .before .before .before .before .before .before .before .before .args .outcome) _ _ (c .before .before .before .before .before .before .before .before .before .before .before .before .before .before .before .before .outcome .given .1)
-    (c .before .before .before .before .before .before .before .before .before .before .before .before .counted .ensures) (c .before .before .before .before .before .before .before .counted2 .ensures) (c .before .before .words .ensures)
+    cleared-put _ _ _ _ (c .before .before .before .before .before .before .before .before .before .before .before .before .before
+    .before .before .before .before .before .before .args .outcome) _ _
+    (c .before .before .before .before .before .before .before .before .before .before .before .before .before .before .before
+    .before .outcome .given .1)
+    (c .before .before .before .before .before .before .before .before .before .before .before .before .counted .ensures)
+    (c .before .before .before .before .before .before .before .counted2 .ensures) (c .before .before .words .ensures)
 
 same-length-2 : tie.Need-same-length-2
 same-length-2 c = search needs
 
 returns-2 : tie.Need-returns-2
 returns-2 c =
-    refused-put _ _ _ (c .before .before .before .before .before .before .before .before .before .before .before .before .before .args .outcome) _ (c .before .before .before .before .before .before .before .before .before .before .outcome2 .given .1) (c .before .before .before .before .before .before .before .refused .ensures) (c .before .before .words2 .ensures)
+    refused-put _ _ _ (c .before .before .before .before .before .before .before .before .before .before .before .before .before .args
+    .outcome) _ (c .before .before .before .before .before .before .before .before .before .before .outcome2 .given .1)
+    (c .before .before .before .before .before .before .before .refused .ensures) (c .before .before .words2 .ensures)
 
 pub put-outcome-spec : {M : Type 1} → statement M
 put-outcome-spec =

@@ -12,7 +12,8 @@ use borrow.Author.Needs.{needs}
 use Rattle.desk.proofs.put_slot.Statement.{statement}
 use Rattle.desk.proofs.put_slot.Tie as tie
 
-lies : (c : tie.After-found) → Placed (c .before .before .before .before .before .args .file .now) (c .before .before .before .before .before .args .slot) (c .found .given .0 .0) (c .found .given .0 .1 .0)
+lies : (c : tie.After-found) → Placed (c .before .before .before .before .before .args .file .now)
+    (c .before .before .before .before .before .args .slot) (c .found .given .0 .0) (c .found .given .0 .1 .0)
 lies c = placed _ _ _ _ _ (sym (c .before .before .nib-slot .ensures) ∙ c .found .given .1)
 
 nib-slot-requires : tie.Need-nib-slot-requires
@@ -55,7 +56,8 @@ returns : tie.Need-returns
 returns c =
     let a = c .before .before .before .before .before .before .before .before .before .before .before .args in
     let g = c .before .before .before .before .before .before .found .given in
-    text-is (a .file .now) (a .slot) _ _ _ (sym (c .before .before .before .before .before .before .before .before .nib-slot .ensures) ∙ g .1)
+    text-is (a .file .now) (a .slot) _ _ _
+    (sym (c .before .before .before .before .before .before .before .before .nib-slot .ensures) ∙ g .1)
     (c .before .before .put-window .ensures
     ∙ ap (λ (w : List ℕ). writes (sheet (a .page .now) (a .at)) (slotLine w (a .slot) (g .0 .1 .0) (g .0 .1 .1 .0)))
     (window-is (a .file .now) (g .0 .0)))
@@ -63,12 +65,14 @@ returns c =
 returns-2 : tie.Need-returns-2
 returns-2 c =
     let a = c .before .before .before .before .before .args in
-    text-is (a .file .now) (a .slot) _ _ _ (sym (c .before .before .nib-slot .ensures) ∙ c .enum-told .given .1) (nothing (sheet (a .page .now) (a .at)))
+    text-is (a .file .now) (a .slot) _ _ _ (sym (c .before .before .nib-slot .ensures) ∙ c .enum-told .given .1)
+    (nothing (sheet (a .page .now) (a .at)))
 
 returns-3 : tie.Need-returns-3
 returns-3 c =
     let a = c .before .before .before .before .before .args in
-    text-is (a .file .now) (a .slot) _ _ _ (sym (c .before .before .nib-slot .ensures) ∙ c .enum-told2 .given .1) (nothing (sheet (a .page .now) (a .at)))
+    text-is (a .file .now) (a .slot) _ _ _ (sym (c .before .before .nib-slot .ensures) ∙ c .enum-told2 .given .1)
+    (nothing (sheet (a .page .now) (a .at)))
 
 pub put-slot-spec : {M : Type 1} → statement M
 put-slot-spec =

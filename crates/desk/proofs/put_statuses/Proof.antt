@@ -30,8 +30,12 @@ same-length c = search needs
 
 returns : tie.Need-returns
 returns c =
-    let a = c .before .before .before .before .before .before .before .before .before .before .before .before .before .before .before .before .before .before .before .args in
-    line-there _ _ _ (a .track) (a .statuses .now) (c .before .before .before .before .before .before .before .before .before .before .before .before .before .before .counted .ensures) _ (sym (c .before .before .before .before .before .before .before .before .before .before .before .any-nonzero .ensures) ∙ c .before .before .before .before .before .before .before .before .before .before .if1 .taken)
+    let a = c .before .before .before .before .before .before .before .before .before .before .before .before .before .before .before
+    .before .before .before .before .args in
+    line-there _ _ _ (a .track) (a .statuses .now)
+    (c .before .before .before .before .before .before .before .before .before .before .before .before .before .before .counted
+    .ensures) _ (sym (c .before .before .before .before .before .before .before .before .before .before .before .any-nonzero
+    .ensures) ∙ c .before .before .before .before .before .before .before .before .before .before .if1 .taken)
     (c .before .before .before .before .before .before .before .put-tally .ensures) (c .before .before .words .ensures)
 
 slice-aggregate-words-2 : tie.Need-slice-aggregate-words-2
@@ -46,7 +50,10 @@ same-length-2 c = search needs
 returns-2 : tie.Need-returns-2
 returns-2 c =
     let a = c .before .before .before .before .before .before .before .before .before .before .before .before .before .before .args in
-    line-absent _ _ _ (a .track) (a .statuses .now) (c .before .before .before .before .before .before .before .before .before .counted .ensures) (sym (c .before .before .before .before .before .before .any-nonzero .ensures) ∙ c .before .before .before .before .before .if1 .left)
+    line-absent _ _ _ (a .track) (a .statuses .now)
+    (c .before .before .before .before .before .before .before .before .before .counted .ensures)
+    (sym (c .before .before .before .before .before .before .any-nonzero .ensures) ∙ c .before .before .before .before .before
+    .if1 .left)
     (c .before .before .words2 .ensures)
 
 pub put-statuses-spec : {M : Type 1} → statement M

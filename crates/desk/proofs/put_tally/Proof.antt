@@ -21,8 +21,11 @@ same-length c = search needs
 returns : tie.Need-returns
 returns c =
     let a = c .before .before .before .before .before .before .before .before .before .before .before .before .before .before .args in
-    tally-all _ _ _ (a .word .now) (a .statuses .now) (c .before .before .before .before .before .before .before .before .before .before .count-reading .result) (c .before .before .before .before .before .before .before .before .before .before .count-reading .ensures)
-    (c .before .before .before .before .before .before .before .before .counted .ensures) (c .before .before .before .counted2 .ensures) (c .if1 .taken)
+    tally-all _ _ _ (a .word .now) (a .statuses .now)
+    (c .before .before .before .before .before .before .before .before .before .before .count-reading .result)
+    (c .before .before .before .before .before .before .before .before .before .before .count-reading .ensures)
+    (c .before .before .before .before .before .before .before .before .counted .ensures) (c .before .before .before .counted2 .ensures)
+    (c .if1 .taken)
 
 put-missing-requires : tie.Need-put-missing-requires
 put-missing-requires c κs = search needs
@@ -32,9 +35,15 @@ same-length-2 c = search needs
 
 returns-2 : tie.Need-returns-2
 returns-2 c =
-    let a = c .before .before .before .before .before .before .before .before .before .before .before .before .before .before .before .before .before .before .args in
-    tally-some _ _ _ (a .word .now) (a .statuses .now) (c .before .before .before .before .before .before .before .before .before .before .before .before .before .before .count-reading .result) (c .before .before .before .before .before .before .before .before .before .before .before .before .before .before .count-reading .ensures)
-    (c .before .before .before .before .before .before .before .before .before .before .before .before .counted .ensures) (c .before .before .before .before .before .before .before .counted2 .ensures) _ (c .before .before .before .before .if1 .left) (c .before .before .put-missing .ensures)
+    let a = c .before .before .before .before .before .before .before .before .before .before .before .before .before .before .before
+    .before .before .before .args in
+    tally-some _ _ _ (a .word .now) (a .statuses .now)
+    (c .before .before .before .before .before .before .before .before .before .before .before .before .before .before .count-reading
+    .result) (c .before .before .before .before .before .before .before .before .before .before .before .before .before .before
+    .count-reading .ensures)
+    (c .before .before .before .before .before .before .before .before .before .before .before .before .counted .ensures)
+    (c .before .before .before .before .before .before .before .counted2 .ensures) _ (c .before .before .before .before .if1 .left)
+    (c .before .before .put-missing .ensures)
 
 pub put-tally-spec : {M : Type 1} → statement M
 put-tally-spec =

@@ -4,6 +4,7 @@ use mathlib.Core.List.{List}
 use mathlib.Core.Path.{_≡_, ap, _∙_}
 use lib.ListN.{replicate}
 use Rattle.pages.specs.Page.{sheet, writes}
+use Rattle.desk.specs.Lines.{ifShown}
 use Rattle.desk.specs.Lines.{trackLine}
 use Rattle.desk.proofs.LineLaws.{statuses-read}
 use borrow.Author.Needs.{needs}
@@ -28,8 +29,8 @@ slice-aggregate-so-far c = search needs
 so-far-requires : tie.Need-so-far-requires
 so-far-requires c κs = search needs
 
-put-statuses-requires : tie.Need-put-statuses-requires
-put-statuses-requires c κs = search needs
+put-if-shown-requires : tie.Need-put-if-shown-requires
+put-if-shown-requires c κs = search needs
 
 same-length : tie.Need-same-length
 same-length c = search needs
@@ -38,11 +39,12 @@ returns : tie.Need-returns
 returns c =
     let a = c .before .before .before .before .before .before .before .before .before .before .before .before .args in
     let t = c .before .before .before .before .before .before .before .before .track-statuses in
-    c .before .before .put-statuses .ensures
-    ∙ ap (λ (l : List ℕ). writes (sheet (a .page .now) (a .at)) (trackLine (a .track) l))
+    let n = c .before .before .before .before .before .before .sectors-per-track in
+    c .before .before .put-if-shown .ensures
+    ∙ ap (λ (l : List ℕ). writes (sheet (a .page .now) (a .at)) (ifShown trackLine (a .track) l))
     (c .before .before .before .so-far .ensures
-    ∙ statuses-read (a .image .now) (replicate 21 0) (t .last .1 .1 .0) (a .track) (c .before .before .before .before .before .before .sectors-per-track .result) (omega arith)
-    (t .ensures .1) (c .before .before .before .before .before .before .sectors-per-track .ensures .0))
+    ∙ statuses-read (a .image .now) (replicate 21 0) (t .last .1 .1 .0) (a .track) (n .result) (omega arith) (t .ensures .1)
+    (n .ensures .0))
 
 pub put-track-spec : {M : Type 1} → statement M
 put-track-spec =
@@ -54,6 +56,6 @@ put-track-spec =
     cast-count
     slice-aggregate-so-far
     so-far-requires
-    put-statuses-requires
+    put-if-shown-requires
     same-length
     returns)

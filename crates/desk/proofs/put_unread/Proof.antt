@@ -18,7 +18,8 @@ abbrev μ-loop : tie.MeasureT-loop
 μ-loop page₀ at statuses behind₀ j₀ page behind j = length statuses - j
 
 loop-holds : tie.Need-loop-holds Inv-loop μ-loop
-loop-holds c = let a = c .before .before .args in (omega arith, refl, none-together (sheet (a .page .now) (a .at)) (unreadAt (a .statuses .now)))
+loop-holds c = let a = c .before .before .args in
+    (omega arith, refl, none-together (sheet (a .page .now) (a .at)) (unreadAt (a .statuses .now)))
 
 put-unread-at-requires : tie.Need-put-unread-at-requires Inv-loop μ-loop
 put-unread-at-requires c κs = omega arith

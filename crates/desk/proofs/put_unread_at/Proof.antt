@@ -16,7 +16,9 @@ same-length : tie.Need-same-length
 same-length c = search needs
 
 returns-2 : tie.Need-returns-2
-returns-2 c = unread-put _ (c .before .before .before .before .before .before .before .before .args .statuses .now) (c .before .before .before .before .before .before .before .before .args .j) _ (c .before .before .before .before .if1 .left) (c .before .before .number .ensures)
+returns-2 c = unread-put _ (c .before .before .before .before .before .before .before .before .args .statuses .now)
+    (c .before .before .before .before .before .before .before .before .args .j) _ (c .before .before .before .before .if1 .left)
+    (c .before .before .number .ensures)
 
 pub put-unread-at-spec : {M : Type 1} → statement M
 put-unread-at-spec =

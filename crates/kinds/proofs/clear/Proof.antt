@@ -34,7 +34,9 @@ same-length c = search needs
 returns : tie.Need-returns
 returns c =
     c .before .before .clear-d64 .ensures
-    ∙ cleared-is (c .before .before .before .before .before .before .before .before .before .args .image .now) _ (sym (c .before .before .before .before .before .before .image-kind .ensures) ∙ c .before .before .before .before .enum-told .given .1)
+    ∙ cleared-is (c .before .before .before .before .before .before .before .before .before .args .image .now) _
+    (sym (c .before .before .before .before .before .before .image-kind .ensures) ∙ c .before .before .before .before .enum-told
+    .given .1)
 
 same-length-2 : tie.Need-same-length-2
 same-length-2 c = search needs
@@ -42,7 +44,9 @@ same-length-2 c = search needs
 returns-2 : tie.Need-returns-2
 returns-2 c =
     c .before .before .clear-g64 .ensures
-    ∙ cleared-is (c .before .before .before .before .before .before .before .before .before .args .image .now) _ (sym (c .before .before .before .before .before .before .image-kind .ensures) ∙ c .before .before .before .before .enum-told2 .given .1)
+    ∙ cleared-is (c .before .before .before .before .before .before .before .before .before .args .image .now) _
+    (sym (c .before .before .before .before .before .before .image-kind .ensures) ∙ c .before .before .before .before .enum-told2
+    .given .1)
 
 same-length-3 : tie.Need-same-length-3
 same-length-3 c = search needs
@@ -50,13 +54,16 @@ same-length-3 c = search needs
 returns-3 : tie.Need-returns-3
 returns-3 c =
     c .before .before .clear-nib .ensures
-    ∙ cleared-is (c .before .before .before .before .before .before .before .before .before .args .image .now) _ (sym (c .before .before .before .before .before .before .image-kind .ensures) ∙ c .before .before .before .before .enum-told3 .given .1)
+    ∙ cleared-is (c .before .before .before .before .before .before .before .before .before .args .image .now) _
+    (sym (c .before .before .before .before .before .before .image-kind .ensures) ∙ c .before .before .before .before .enum-told3
+    .given .1)
 
 same-length-4 : tie.Need-same-length-4
 same-length-4 c = search needs
 
 returns-4 : tie.Need-returns-4
-returns-4 c = cleared-is (c .before .before .before .before .before .args .image .now) _ (sym (c .before .before .image-kind .ensures) ∙ c .enum-told4 .given .1)
+returns-4 c = cleared-is (c .before .before .before .before .before .args .image .now) _
+    (sym (c .before .before .image-kind .ensures) ∙ c .enum-told4 .given .1)
 
 pub clear-spec : {M : Type 1} → statement M
 clear-spec =

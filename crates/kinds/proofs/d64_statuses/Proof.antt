@@ -16,7 +16,8 @@ same-length c = search needs
 returns : tie.Need-returns
 returns c =
     let a = c .before .before .before .before .before .before .before .args in
-    d64-has (a .image .now) (a .highest) (a .track) (a .part .now) (c .before .before .put-d64-statuses .last .1 .1 .1 .0) (c .before .before .before .before .before .before .before .pre .1)
+    d64-has (a .image .now) (a .highest) (a .track) (a .part .now) (c .before .before .put-d64-statuses .last .1 .1 .1 .0)
+    (c .before .before .before .before .before .before .before .pre .1)
     (c .before .before .before .before .if1 .taken) (c .before .before .put-d64-statuses .ensures)
 
 fill-requires : tie.Need-fill-requires
@@ -28,7 +29,8 @@ same-length-2 c = search needs
 returns-2 : tie.Need-returns-2
 returns-2 c =
     let a = c .before .before .before .before .before .before .before .args in
-    d64-none (a .image .now) (a .highest) (a .track) (a .part .now) (c .before .before .fill .last .0) (c .before .before .before .before .before .before .before .pre .1)
+    d64-none (a .image .now) (a .highest) (a .track) (a .part .now) (c .before .before .fill .last .0)
+    (c .before .before .before .before .before .before .before .pre .1)
     (c .before .before .before .before .if1 .left) (c .before .before .fill .ensures)
 
 pub d64-statuses-spec : {M : Type 1} → statement M

@@ -29,7 +29,8 @@ shared-slice-read-result c = search needs
 returns : tie.Need-returns
 returns c =
     let a = c .before .before .before .before .before .args in
-    byte-there (a .image .now) (a .highest) (a .track) (a .sector) (c .before .before .before .d64-place .result) (c .before .before .d64-place2 .result)
+    byte-there (a .image .now) (a .highest) (a .track) (a .sector) (c .before .before .before .d64-place .result)
+    (c .before .before .d64-place2 .result)
     (c .before .before .before .d64-place .ensures) (c .before .before .d64-place2 .ensures) (c .before .if1 .taken)
 
 returns-2 : tie.Need-returns-2

@@ -20,7 +20,8 @@ element-copy-out-end : tie.Need-element-copy-out-end
 element-copy-out-end c = search needs
 
 add-end : tie.Need-add-end
-add-end c = let a = c .before .before .before .before .args in omega (arith, ring-inside (a .image .now) (a .half) (c .before .before .g64-table .result) (c .before .before .g64-table .ensures))
+add-end c = let a = c .before .before .before .before .args in omega
+    (arith, ring-inside (a .image .now) (a .half) (c .before .before .g64-table .result) (c .before .before .g64-table .ensures))
 
 sub-result : tie.Need-sub-result
 sub-result c = search needs
@@ -34,7 +35,8 @@ part-result-end c =
     omega (arith, ring-inside (a .image .now) (a .half) (c .before .before .g64-table .result) (c .before .before .g64-table .ensures))
 
 returns : tie.Need-returns
-returns c = let a = c .before .before .before .before .before .args in ring-of (a .image .now) (a .half) (c .before .before .before .g64-table .result) (c .before .before .before .g64-table .ensures)
+returns c = let a = c .before .before .before .before .before .args in ring-of (a .image .now) (a .half)
+    (c .before .before .before .g64-table .result) (c .before .before .before .g64-table .ensures)
 
 pub g64-ring-spec : {M : Type 1} → statement M
 g64-ring-spec =

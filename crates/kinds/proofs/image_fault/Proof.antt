@@ -27,20 +27,24 @@ enum-told-4 : tie.Need-enum-told-4
 enum-told-4 c = search needs
 
 returns : tie.Need-returns
-returns c = fault-is (c .before .before .before .before .args .image .now) _ (sym (c .before .before .image-kind .ensures) ∙ c .enum-told .given .1)
+returns c = fault-is (c .before .before .before .before .args .image .now) _
+    (sym (c .before .before .image-kind .ensures) ∙ c .enum-told .given .1)
 
 returns-2 : tie.Need-returns-2
 returns-2 c =
     ap (λ (t : Table). t .number) (c .g64-table .ensures)
-    ∙ fault-is (c .before .before .before .before .before .args .image .now) _ (sym (c .before .before .before .image-kind .ensures) ∙ c .before .enum-told2 .given .1)
+    ∙ fault-is (c .before .before .before .before .before .args .image .now) _
+    (sym (c .before .before .before .image-kind .ensures) ∙ c .before .enum-told2 .given .1)
 
 returns-3 : tie.Need-returns-3
 returns-3 c =
     c .catalogue-fault .ensures
-    ∙ fault-is (c .before .before .before .before .before .args .image .now) _ (sym (c .before .before .before .image-kind .ensures) ∙ c .before .enum-told3 .given .1)
+    ∙ fault-is (c .before .before .before .before .before .args .image .now) _
+    (sym (c .before .before .before .image-kind .ensures) ∙ c .before .enum-told3 .given .1)
 
 returns-4 : tie.Need-returns-4
-returns-4 c = fault-is (c .before .before .before .before .args .image .now) _ (sym (c .before .before .image-kind .ensures) ∙ c .enum-told4 .given .1)
+returns-4 c = fault-is (c .before .before .before .before .args .image .now) _
+    (sym (c .before .before .image-kind .ensures) ∙ c .enum-told4 .given .1)
 
 pub image-fault-spec : {M : Type 1} → statement M
 image-fault-spec =

@@ -15,7 +15,8 @@ is-nib-requires c κs = search needs
 
 returns-2 : tie.Need-returns-2
 returns-2 c =
-    kind-nib (c .before .before .before .before .before .args .image .now) (sym (c .before .before .before .is-g64 .ensures) ∙ c .before .before .if1 .left)
+    kind-nib (c .before .before .before .before .before .args .image .now)
+    (sym (c .before .before .before .is-g64 .ensures) ∙ c .before .before .if1 .left)
     (sym (c .before .is-nib .ensures) ∙ c .if2 .taken)
 
 tracks-of-requires : tie.Need-tracks-of-requires
@@ -29,13 +30,16 @@ enum-told c = search needs
 
 returns-3 : tie.Need-returns-3
 returns-3 c =
-    kind-size (c .before .before .before .before .before .before .before .before .args .image .now) (sym (c .before .before .before .before .before .before .is-g64 .ensures) ∙ c .before .before .before .before .before .if1 .left)
+    kind-size (c .before .before .before .before .before .before .before .before .args .image .now)
+    (sym (c .before .before .before .before .before .before .is-g64 .ensures) ∙ c .before .before .before .before .before .if1 .left)
     (sym (c .before .before .before .before .is-nib .ensures) ∙ c .before .before .before .if2 .left) _
     (sym (c .before .before .tracks-of .ensures) ∙ c .enum-told .given .1)
 
 returns-4 : tie.Need-returns-4
 returns-4 c =
-    kind-size (c .before .before .before .before .before .before .before .before .before .args .image .now) (sym (c .before .before .before .before .before .before .before .is-g64 .ensures) ∙ c .before .before .before .before .before .before .if1 .left)
+    kind-size (c .before .before .before .before .before .before .before .before .before .args .image .now)
+    (sym (c .before .before .before .before .before .before .before .is-g64 .ensures) ∙ c .before .before .before .before .before
+    .before .if1 .left)
     (sym (c .before .before .before .before .before .is-nib .ensures) ∙ c .before .before .before .before .if2 .left) _
     (sym (c .before .before .before .tracks-of .ensures) ∙ c .before .n .given .1)
 

@@ -23,7 +23,8 @@ same-bytes-requires : tie.Need-same-bytes-requires
 same-bytes-requires c κs = search needs
 
 returns-2 : tie.Need-returns-2
-returns-2 c = nib-signed (c .before .before .before .before .before .args .image .now) (c .same-bytes .result) (omega arith) (c .same-bytes .ensures)
+returns-2 c = nib-signed (c .before .before .before .before .before .args .image .now) (c .same-bytes .result) (omega arith)
+    (c .same-bytes .ensures)
 
 pub is-nib-spec : {M : Type 1} → statement M
 is-nib-spec =

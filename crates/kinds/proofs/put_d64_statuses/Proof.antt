@@ -11,7 +11,8 @@ use Rattle.kinds.proofs.put_d64_statuses.Statement.{statement}
 use Rattle.kinds.proofs.put_d64_statuses.Tie as tie
 
 abbrev Inv-loop : tie.InvT-loop
-Inv-loop image highest track part₀ sector₀ part sector = (sector ≤ length part₀) × (length part ≡ length part₀) × (part ≡ tab sector (d64Status image highest track) ++ drop sector part₀)
+Inv-loop image highest track part₀ sector₀ part sector = (sector ≤ length part₀) × (length part ≡ length part₀) ×
+    (part ≡ tab sector (d64Status image highest track) ++ drop sector part₀)
 
 abbrev μ-loop : tie.MeasureT-loop
 μ-loop image highest track part₀ sector₀ part sector = length part₀ - sector

@@ -14,7 +14,8 @@ same-length c = search needs
 returns : tie.Need-returns
 returns c =
     let a = c .before .before .before .before .before .before .before .args in
-    no-track (a .part .now) (c .before .before .fill .last .0) (a .track) (c .before .before .before .before .before .before .before .pre) (c .before .before .fill .ensures)
+    no-track (a .part .now) (c .before .before .fill .last .0) (a .track)
+    (c .before .before .before .before .before .before .before .pre) (c .before .before .fill .ensures)
     ∙ track-zero (a .image .now) (a .track) (c .before .before .before .before .if1 .taken)
 
 fill-requires-2 : tie.Need-fill-requires-2
@@ -26,7 +27,8 @@ same-length-2 c = search needs
 returns-2 : tie.Need-returns-2
 returns-2 c =
     let a = c .before .before .before .before .before .before .before .before .args in
-    no-track (a .part .now) (c .before .before .fill2 .last .0) (a .track) (c .before .before .before .before .before .before .before .before .pre) (c .before .before .fill2 .ensures)
+    no-track (a .part .now) (c .before .before .fill2 .last .0) (a .track)
+    (c .before .before .before .before .before .before .before .before .pre) (c .before .before .fill2 .ensures)
     ∙ track-past (a .image .now) (a .track) (c .before .before .before .before .if2 .taken)
 
 statuses-by-kind-requires : tie.Need-statuses-by-kind-requires
@@ -39,7 +41,8 @@ returns-3 : tie.Need-returns-3
 returns-3 c =
     let a = c .before .before .before .before .before .before .before .before .args in
     let some = c .before .before .before .before .before .if1 .left in
-    c .before .before .statuses-by-kind .ensures ∙ track-in (a .image .now) (a .track) (omega arith) (c .before .before .before .before .if2 .left)
+    c .before .before .statuses-by-kind .ensures ∙ track-in (a .image .now) (a .track) (omega arith)
+    (c .before .before .before .before .if2 .left)
 
 pub put-statuses-spec : {M : Type 1} → statement M
 put-statuses-spec =

@@ -25,8 +25,10 @@ returns c =
     let f = c .before .before .before .before .before .before .before .before .fill in
     let d = c .before .before .before .decode-track-from in
     d .ensures .2
-    ∙ ring-read (a .ring .now) (replicate 5376 0) (f .last .0) (a .track) (omega arith) (f .kept .0 ∙ c .before .before .before .before .before .before .before .before .before .before .before .before .pre)
-    (no-track (a .part .now) (f .last .0) (a .track) (c .before .before .before .before .before .before .before .before .before .before .before .before .pre) (f .ensures))
+    ∙ ring-read (a .ring .now) (replicate 5376 0) (f .last .0) (a .track) (omega arith)
+    (f .kept .0 ∙ c .before .before .before .before .before .before .before .before .before .before .before .before .pre)
+    (no-track (a .part .now) (f .last .0) (a .track)
+    (c .before .before .before .before .before .before .before .before .before .before .before .before .pre) (f .ensures))
 
 pub ring-statuses-spec : {M : Type 1} → statement M
 ring-statuses-spec =

@@ -19,7 +19,9 @@ enum-known-kind c = search needs
 
 d64-statuses-requires : tie.Need-d64-statuses-requires
 d64-statuses-requires c κs =
-    let h = d64-highest (c .before .before .before .before .before .before .before .args .image .now) (c .before .before .kind .given .0 .0) (sym (c .before .before .before .before .image-kind .ensures) ∙ c .before .before .kind .given .1) in
+    let h = d64-highest (c .before .before .before .before .before .before .before .args .image .now)
+    (c .before .before .kind .given .0 .0)
+    (sym (c .before .before .before .before .image-kind .ensures) ∙ c .before .before .kind .given .1) in
     omega arith
 
 enum-told : tie.Need-enum-told
@@ -58,7 +60,10 @@ same-length c = search needs
 returns : tie.Need-returns
 returns c =
     c .before .before .d64-statuses .ensures
-    ∙ by-kind (c .before .before .before .before .before .before .before .before .before .before .args .image .now) (c .before .before .before .before .before .before .before .before .before .before .args .track) _ (sym (c .before .before .before .before .before .before .before .image-kind .ensures) ∙ c .before .before .before .before .before .kind .given .1)
+    ∙ by-kind (c .before .before .before .before .before .before .before .before .before .before .args .image .now)
+    (c .before .before .before .before .before .before .before .before .before .before .args .track) _
+    (sym (c .before .before .before .before .before .before .before .image-kind .ensures) ∙ c .before .before .before .before
+    .before .kind .given .1)
 
 same-length-2 : tie.Need-same-length-2
 same-length-2 c = search needs
@@ -67,8 +72,12 @@ returns-2 : tie.Need-returns-2
 returns-2 c =
     let a = c .before .before .before .before .before .before .before .before .before .before .before .args in
     c .before .before .ring-statuses .ensures
-    ∙ ap (λ (r : List ℕ). ringStatuses r (a .track)) (c .before .before .before .before .g64-ring .ensures ∙ ap (g64Ring (a .image .now)) (c .before .before .before .before .before .half-of .ensures .0))
-    ∙ by-kind (a .image .now) (a .track) _ (sym (c .before .before .before .before .before .before .before .before .image-kind .ensures) ∙ c .before .before .before .before .before .before .enum-told .given .1)
+    ∙ ap (λ (r : List ℕ). ringStatuses r (a .track))
+    (c .before .before .before .before .g64-ring .ensures ∙ ap (g64Ring (a .image .now))
+    (c .before .before .before .before .before .half-of .ensures .0))
+    ∙ by-kind (a .image .now) (a .track) _
+    (sym (c .before .before .before .before .before .before .before .before .image-kind .ensures) ∙ c .before .before .before .before
+    .before .before .enum-told .given .1)
 
 same-length-3 : tie.Need-same-length-3
 same-length-3 c = search needs
@@ -77,8 +86,12 @@ returns-3 : tie.Need-returns-3
 returns-3 c =
     let a = c .before .before .before .before .before .before .before .before .before .before .before .args in
     c .before .before .ring-statuses2 .ensures
-    ∙ ap (λ (r : List ℕ). ringStatuses r (a .track)) (c .before .before .before .before .nib-ring .ensures ∙ ap (ringOf (a .image .now)) (c .before .before .before .before .before .half-of2 .ensures .0))
-    ∙ by-kind (a .image .now) (a .track) _ (sym (c .before .before .before .before .before .before .before .before .image-kind .ensures) ∙ c .before .before .before .before .before .before .enum-told2 .given .1)
+    ∙ ap (λ (r : List ℕ). ringStatuses r (a .track))
+    (c .before .before .before .before .nib-ring .ensures ∙ ap (ringOf (a .image .now))
+    (c .before .before .before .before .before .half-of2 .ensures .0))
+    ∙ by-kind (a .image .now) (a .track) _
+    (sym (c .before .before .before .before .before .before .before .before .image-kind .ensures) ∙ c .before .before .before .before
+    .before .before .enum-told2 .given .1)
 
 same-length-4 : tie.Need-same-length-4
 same-length-4 c = search needs
@@ -86,8 +99,11 @@ same-length-4 c = search needs
 returns-4 : tie.Need-returns-4
 returns-4 c =
     let a = c .before .before .before .before .before .before .before .before .before .args in
-    no-track (a .part .now) (c .before .before .fill .last .0) (a .track) (c .before .before .before .before .before .before .before .before .before .pre .2) (c .before .before .fill .ensures)
-    ∙ by-kind (a .image .now) (a .track) _ (sym (c .before .before .before .before .before .before .image-kind .ensures) ∙ c .before .before .before .before .enum-told3 .given .1)
+    no-track (a .part .now) (c .before .before .fill .last .0) (a .track)
+    (c .before .before .before .before .before .before .before .before .before .pre .2) (c .before .before .fill .ensures)
+    ∙ by-kind (a .image .now) (a .track) _
+    (sym (c .before .before .before .before .before .before .image-kind .ensures) ∙ c .before .before .before .before .enum-told3
+    .given .1)
 
 pub statuses-by-kind-spec : {M : Type 1} → statement M
 statuses-by-kind-spec =

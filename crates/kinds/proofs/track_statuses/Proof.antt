@@ -40,7 +40,8 @@ returns-2 c =
     let s = c .before .before .before .before .before .sectors-per-track in
     let h : sectorsOf (a .track) ≤ length (a .statuses .now) = omega (arith, s .ensures) in (
       room-number (a .image .now) (a .track) (a .statuses .now) h,
-      room-after (a .image .now) (a .track) (a .statuses .now) (s .result) (c .before .before .put-statuses .last .1 .1 .0) (s .ensures .0) h
+      room-after (a .image .now) (a .track) (a .statuses .now) (s .result) (c .before .before .put-statuses .last .1 .1 .0)
+          (s .ensures .0) h
           (c .before .before .put-statuses .ensures),
     )
 

@@ -37,7 +37,8 @@ returns c =
     let w = c .before .before .words in
     let l : length (decimal (a .n)) ≤ 20 = decimal-width 19 (a .n) (omega arith) in
     named (a .page .now) (a .at) _ (decimal (a .n)) (w .last .0) (w .result)
-    (c .before .before .before .so-far .ensures ∙ front (replicate 20 0) (d .last .0) (decimal (a .n)) (d .result) (omega (arith, l)) (d .ensures))
+    (c .before .before .before .so-far .ensures ∙ front (replicate 20 0) (d .last .0) (decimal (a .n)) (d .result) (omega (arith, l))
+    (d .ensures))
     (one-piece (a .page .now) (a .at) _ (w .last .0) (w .result) (w .ensures .0) (w .ensures .1))
 
 pub decimal-spec : {M : Type 1} → statement M

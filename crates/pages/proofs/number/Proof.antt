@@ -12,7 +12,8 @@ same-length c = search needs
 returns : tie.Need-returns
 returns c =
     let a = c .before .before .before .before .before .args in
-    one-piece (a .page .now) (a .at) _ (c .before .before .number .last .0) (c .before .before .number .result) (c .before .before .number .ensures .0) (c .before .before .number .ensures .1)
+    one-piece (a .page .now) (a .at) _ (c .before .before .number .last .0) (c .before .before .number .result)
+    (c .before .before .number .ensures .0) (c .before .before .number .ensures .1)
 
 pub number-spec : {M : Type 1} → statement M
 number-spec = tie.close (tie.spec number-requires same-length returns)

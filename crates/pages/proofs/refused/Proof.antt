@@ -12,7 +12,8 @@ same-length c = search needs
 returns : tie.Need-returns
 returns c =
     let a = c .before .before .before .before .before .args in
-    one-piece (a .page .now) (a .at) _ (c .before .before .refused .last .0) (c .before .before .refused .result) (c .before .before .refused .ensures .0) (c .before .before .refused .ensures .1)
+    one-piece (a .page .now) (a .at) _ (c .before .before .refused .last .0) (c .before .before .refused .result)
+    (c .before .before .refused .ensures .0) (c .before .before .refused .ensures .1)
 
 pub refused-spec : {M : Type 1} → statement M
 refused-spec = tie.close (tie.spec refused-requires same-length returns)

@@ -12,7 +12,8 @@ same-length c = search needs
 returns : tie.Need-returns
 returns c =
     let a = c .before .before .before .before .before .before .args in
-    one-piece (a .page .now) (a .at) _ (c .before .before .words .last .0) (c .before .before .words .result) (c .before .before .words .ensures .0) (c .before .before .words .ensures .1)
+    one-piece (a .page .now) (a .at) _ (c .before .before .words .last .0) (c .before .before .words .result)
+    (c .before .before .words .ensures .0) (c .before .before .words .ensures .1)
 
 pub words-spec : {M : Type 1} → statement M
 words-spec = tie.close (tie.spec words-requires same-length returns)

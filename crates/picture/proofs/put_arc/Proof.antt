@@ -26,8 +26,12 @@ same-length c = search needs
 
 returns : tie.Need-returns
 returns c =
-    let a = c .before .before .before .before .before .before .before .before .before .before .before .before .before .before .before .before .before .before .before .before .args in
-    arc-put _ _ _ _ _ (a .track) (a .statuses .now) (a .j) (c .before .before .before .before .before .before .before .before .before .before .before .before .before .before .before .words .ensures) (c .before .before .before .before .before .before .before .before .before .before .put-class .ensures) (c .before .before .before .before .before .before .put-ring .ensures)
+    let a = c .before .before .before .before .before .before .before .before .before .before .before .before .before .before .before
+    .before .before .before .before .before .args in
+    arc-put _ _ _ _ _ (a .track) (a .statuses .now) (a .j)
+    (c .before .before .before .before .before .before .before .before .before .before .before .before .before .before .before .words
+    .ensures) (c .before .before .before .before .before .before .before .before .before .before .put-class .ensures)
+    (c .before .before .before .before .before .before .put-ring .ensures)
     (c .before .before .put-dash .ensures)
 
 pub put-arc-spec : {M : Type 1} → statement M

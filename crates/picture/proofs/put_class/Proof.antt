@@ -13,7 +13,8 @@ same-length : tie.Need-same-length
 same-length c = search needs
 
 returns : tie.Need-returns
-returns c = class-reads _ _ (c .before .before .before .before .before .before .before .args .status) (c .before .before .before .before .before .if1 .taken) (c .before .before .words .ensures)
+returns c = class-reads _ _ (c .before .before .before .before .before .before .before .args .status)
+    (c .before .before .before .before .before .if1 .taken) (c .before .before .words .ensures)
 
 slice-aggregate-words-2 : tie.Need-slice-aggregate-words-2
 slice-aggregate-words-2 c = search needs
@@ -25,7 +26,8 @@ same-length-2 : tie.Need-same-length-2
 same-length-2 c = search needs
 
 returns-2 : tie.Need-returns-2
-returns-2 c = class-absent _ _ (c .before .before .before .before .before .before .before .before .args .status) (c .before .before .before .before .before .if2 .taken) (c .before .before .words2 .ensures)
+returns-2 c = class-absent _ _ (c .before .before .before .before .before .before .before .before .args .status)
+    (c .before .before .before .before .before .if2 .taken) (c .before .before .words2 .ensures)
 
 slice-aggregate-words-3 : tie.Need-slice-aggregate-words-3
 slice-aggregate-words-3 c = search needs
@@ -37,7 +39,9 @@ same-length-3 : tie.Need-same-length-3
 same-length-3 c = search needs
 
 returns-3 : tie.Need-returns-3
-returns-3 c = class-missing _ _ (c .before .before .before .before .before .before .before .before .args .status) (c .before .before .before .before .before .before .if1 .left) (c .before .before .before .before .before .if2 .left) (c .before .before .words3 .ensures)
+returns-3 c = class-missing _ _ (c .before .before .before .before .before .before .before .before .args .status)
+    (c .before .before .before .before .before .before .if1 .left) (c .before .before .before .before .before .if2 .left)
+    (c .before .before .words3 .ensures)
 
 pub put-class-spec : {M : Type 1} → statement M
 put-class-spec =

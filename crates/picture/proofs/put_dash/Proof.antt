@@ -35,8 +35,13 @@ same-length c = search needs
 
 returns : tie.Need-returns
 returns c =
-    let a = c .before .before .before .before .before .before .before .before .before .before .before .before .before .before .before .before .before .before .before .before .before .args in
-    dash-put _ _ _ _ _ (a .track) (a .n) (a .j) (c .before .before .before .before .before .before .before .before .before .before .before .before .before .before .before .before .before .valued .ensures) (c .before .before .before .before .before .before .before .before .before .before .before .before .counted .ensures) (c .before .before .before .before .before .before .before .counted2 .ensures) (c .before .before .words .ensures)
+    let a = c .before .before .before .before .before .before .before .before .before .before .before .before .before .before .before
+    .before .before .before .before .before .before .args in
+    dash-put _ _ _ _ _ (a .track) (a .n) (a .j)
+    (c .before .before .before .before .before .before .before .before .before .before .before .before .before .before .before
+    .before .before .valued .ensures)
+    (c .before .before .before .before .before .before .before .before .before .before .before .before .counted .ensures)
+    (c .before .before .before .before .before .before .before .counted2 .ensures) (c .before .before .words .ensures)
 
 pub put-dash-spec : {M : Type 1} → statement M
 put-dash-spec =

@@ -32,8 +32,14 @@ same-length c = search needs
 
 returns : tie.Need-returns
 returns c =
-    let a = c .before .before .before .before .before .before .before .before .before .before .before .before .before .before .before .before .before .args in
-    ring-put _ _ _ _ (a .track) (a .n) (c .before .before .before .before .before .before .before .before .before .before .before .before .before .before .before .radius-of .result) (c .before .before .before .before .before .before .before .before .before .before .before .before .before .before .before .radius-of .ensures) (c .before .before .before .before .before .before .before .before .before .before .before .before .valued .ensures) (c .before .before .before .before .before .before .before .valued2 .ensures)
+    let a = c .before .before .before .before .before .before .before .before .before .before .before .before .before .before .before
+    .before .before .args in
+    ring-put _ _ _ _ (a .track) (a .n)
+    (c .before .before .before .before .before .before .before .before .before .before .before .before .before .before .before
+    .radius-of .result) (c .before .before .before .before .before .before .before .before .before .before .before .before
+    .before .before .before .radius-of .ensures)
+    (c .before .before .before .before .before .before .before .before .before .before .before .before .valued .ensures)
+    (c .before .before .before .before .before .before .before .valued2 .ensures)
     (c .before .before .valued3 .ensures)
 
 pub put-ring-spec : {M : Type 1} → statement M

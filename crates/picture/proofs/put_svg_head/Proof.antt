@@ -31,7 +31,11 @@ same-length : tie.Need-same-length
 same-length c = search needs
 
 returns : tie.Need-returns
-returns c = head-put _ _ _ _ _ (c .before .before .before .before .before .before .before .before .before .before .before .before .before .before .before .before .before .words .ensures) (c .before .before .before .before .before .before .before .before .before .before .before .before .words2 .ensures) (c .before .before .before .before .before .before .before .words3 .ensures) (c .before .before .words4 .ensures)
+returns c = head-put _ _ _ _ _
+    (c .before .before .before .before .before .before .before .before .before .before .before .before .before .before .before .before
+    .before .words .ensures)
+    (c .before .before .before .before .before .before .before .before .before .before .before .before .words2 .ensures)
+    (c .before .before .before .before .before .before .before .words3 .ensures) (c .before .before .words4 .ensures)
 
 pub put-svg-head-spec : {M : Type 1} → statement M
 put-svg-head-spec =

@@ -12,13 +12,15 @@ use Rattle.picture.proofs.put_svg_track.Tie as tie
 
 abbrev Inv-loop : tie.InvT-loop
 Inv-loop page₀ at statuses track behind₀ j₀ page behind j =
-    (j ≤ length statuses) × (length page ≡ length page₀) × (sheet page behind ≡ writes (sheet page₀ at) (together j (arcText track statuses)))
+    (j ≤ length statuses) × (length page ≡ length page₀) ×
+    (sheet page behind ≡ writes (sheet page₀ at) (together j (arcText track statuses)))
 
 abbrev μ-loop : tie.MeasureT-loop
 μ-loop page₀ at statuses track behind₀ j₀ page behind j = length statuses - j
 
 loop-holds : tie.Need-loop-holds Inv-loop μ-loop
-loop-holds c = let a = c .before .before .args in (omega arith, refl, none-together (sheet (a .page .now) (a .at)) (arcText (a .track) (a .statuses .now)))
+loop-holds c = let a = c .before .before .args in
+    (omega arith, refl, none-together (sheet (a .page .now) (a .at)) (arcText (a .track) (a .statuses .now)))
 
 put-arc-requires : tie.Need-put-arc-requires Inv-loop μ-loop
 put-arc-requires c κs = omega arith

@@ -18,7 +18,8 @@ same-length c = search needs
 returns : tie.Need-returns
 returns c =
     let a = c .before .before .before .before .before .before .before .args in
-    is-whole _ (a .window .now) (a .slot) (a .span) _ (c .before .before .before .before .if1 .taken) (c .before .before .put-sectors .ensures)
+    is-whole _ (a .window .now) (a .slot) (a .span) _ (c .before .before .before .before .if1 .taken)
+    (c .before .before .put-sectors .ensures)
 
 returns-2 : tie.Need-returns-2
 returns-2 c = let a = c .before .before .before .args in is-half _ (a .window .now) (a .slot) (a .span) (c .if1 .left)

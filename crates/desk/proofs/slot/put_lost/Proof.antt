@@ -18,7 +18,8 @@ abbrev μ-loop : tie.MeasureT-loop
 μ-loop page₀ at ring window behind₀ j₀ page behind j = length ring - j
 
 loop-holds : tie.Need-loop-holds Inv-loop μ-loop
-loop-holds c = let a = c .before .before .before .args in (omega arith, refl, none-together (sheet (a .page .now) (a .at)) (lostAt (a .ring .now) (a .window .now)))
+loop-holds c = let a = c .before .before .before .args in
+    (omega arith, refl, none-together (sheet (a .page .now) (a .at)) (lostAt (a .ring .now) (a .window .now)))
 
 put-lost-at-requires : tie.Need-put-lost-at-requires Inv-loop μ-loop
 put-lost-at-requires c κs = omega arith

@@ -14,7 +14,8 @@ shared-slice-read-if2 : tie.Need-shared-slice-read-if2
 shared-slice-read-if2 c = search needs
 
 returns-2 : tie.Need-returns-2
-returns-2 c = let a = c .before .before .before .before .before .before .before .args in lost-neither _ (a .ring .now) (a .window .now) (a .j) (c .before .before .if1 .left) (c .if2 .taken)
+returns-2 c = let a = c .before .before .before .before .before .before .before .args in lost-neither _ (a .ring .now) (a .window .now)
+    (a .j) (c .before .before .if1 .left) (c .if2 .taken)
 
 slice-aggregate-counted : tie.Need-slice-aggregate-counted
 slice-aggregate-counted c = search needs
@@ -33,8 +34,12 @@ same-length c = search needs
 
 returns-3 : tie.Need-returns-3
 returns-3 c =
-    let a = c .before .before .before .before .before .before .before .before .before .before .before .before .before .before .before .before .before .args in
-    lost-put _ (a .ring .now) (a .window .now) (a .j) (c .before .before .before .before .before .before .before .before .before .before .before .before .if1 .left) _ _ (c .before .before .before .before .before .before .before .before .before .before .if2 .left) (c .before .before .before .before .before .before .before .counted .ensures) (c .before .before .words .ensures)
+    let a = c .before .before .before .before .before .before .before .before .before .before .before .before .before .before .before
+    .before .before .args in
+    lost-put _ (a .ring .now) (a .window .now) (a .j)
+    (c .before .before .before .before .before .before .before .before .before .before .before .before .if1 .left) _ _
+    (c .before .before .before .before .before .before .before .before .before .before .if2 .left)
+    (c .before .before .before .before .before .before .before .counted .ensures) (c .before .before .words .ensures)
 
 pub put-lost-at-spec : {M : Type 1} → statement M
 put-lost-at-spec =

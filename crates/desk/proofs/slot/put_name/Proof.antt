@@ -16,7 +16,8 @@ same-length : tie.Need-same-length
 same-length c = search needs
 
 returns : tie.Need-returns
-returns c = name-whole _ _ (c .before .before .before .before .before .before .before .args .slot) (c .before .before .before .counted .ensures) (c .if1 .taken)
+returns c = name-whole _ _ (c .before .before .before .before .before .before .before .args .slot)
+    (c .before .before .before .counted .ensures) (c .if1 .taken)
 
 slice-aggregate-words : tie.Need-slice-aggregate-words
 slice-aggregate-words c = search needs
@@ -28,7 +29,10 @@ same-length-2 : tie.Need-same-length-2
 same-length-2 c = search needs
 
 returns-2 : tie.Need-returns-2
-returns-2 c = name-half _ _ (c .before .before .before .before .before .before .before .before .before .before .before .before .args .slot) (c .before .before .before .before .before .before .before .before .counted .ensures) _ (c .before .before .before .before .before .if1 .left) (c .before .before .words .ensures)
+returns-2 c = name-half _ _
+    (c .before .before .before .before .before .before .before .before .before .before .before .before .args .slot)
+    (c .before .before .before .before .before .before .before .before .counted .ensures) _
+    (c .before .before .before .before .before .if1 .left) (c .before .before .words .ensures)
 
 pub put-name-spec : {M : Type 1} → statement M
 put-name-spec =

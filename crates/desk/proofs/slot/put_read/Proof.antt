@@ -23,8 +23,11 @@ same-length-3 c = search needs
 
 returns : tie.Need-returns
 returns c =
-    let a = c .before .before .before .before .before .before .before .before .before .before .before .before .before .before .before .before .before .before .before .args in
-    found-of _ _ _ _ (a .ring .now) (a .window .now) (a .track) (c .before .before .before .before .before .before .before .before .before .before .before .before .ring-statuses .ensures) (c .before .before .before .before .before .before .before .before .ring-statuses2 .ensures)
+    let a = c .before .before .before .before .before .before .before .before .before .before .before .before .before .before .before
+    .before .before .before .before .args in
+    found-of _ _ _ _ (a .ring .now) (a .window .now) (a .track)
+    (c .before .before .before .before .before .before .before .before .before .before .before .before .ring-statuses .ensures)
+    (c .before .before .before .before .before .before .before .before .ring-statuses2 .ensures)
     (c .before .before .put-found .ensures)
 
 pub put-read-spec : {M : Type 1} → statement M

@@ -38,9 +38,17 @@ same-length c = search needs
 
 returns : tie.Need-returns
 returns c =
-    let a = c .before .before .before .before .before .before .before .before .before .before .before .before .before .before .before .before .before .before .before .before .before .before .before .args in
-    span-put _ _ _ _ _ (a .window .now) (a .span) (a .zone) (c .before .before .before .before .before .before .before .before .before .before .before .before .before .before .before .before .before .before .before .before .agreements .result) (c .before .before .before .before .before .before .before .before .before .before .before .before .before .before .before .before .before .before .before .before .agreements .ensures) (c .before .before .before .before .before .before .before .before .before .before .before .before .before .before .before .before .before .counted .ensures)
-    (c .before .before .before .before .before .before .before .before .before .before .before .before .counted2 .ensures) (c .before .before .before .before .before .before .before .counted3 .ensures) (c .before .before .counted4 .ensures)
+    let a = c .before .before .before .before .before .before .before .before .before .before .before .before .before .before .before
+    .before .before .before .before .before .before .before .before .args in
+    span-put _ _ _ _ _ (a .window .now) (a .span) (a .zone)
+    (c .before .before .before .before .before .before .before .before .before .before .before .before .before .before .before
+    .before .before .before .before .before .agreements .result)
+    (c .before .before .before .before .before .before .before .before .before .before .before .before .before .before
+    .before .before .before .before .before .before .agreements .ensures)
+    (c .before .before .before .before .before .before .before .before .before .before .before .before .before
+    .before .before .before .before .counted .ensures)
+    (c .before .before .before .before .before .before .before .before .before .before .before .before .counted2 .ensures)
+    (c .before .before .before .before .before .before .before .counted3 .ensures) (c .before .before .counted4 .ensures)
 
 pub put-span-spec : {M : Type 1} → statement M
 put-span-spec =

@@ -23,8 +23,12 @@ same-length c = search needs
 
 returns : tie.Need-returns
 returns c =
-    let a = c .before .before .before .before .before .before .before .before .before .before .before .before .before .before .before .before .before .before .before .args in
-    line-put _ _ _ _ _ (a .window .now) (a .slot) (a .span) (a .zone) (c .before .before .before .before .before .before .before .before .before .before .before .before .before .before .before .put-name .ensures) (c .before .before .before .before .before .before .before .before .before .before .before .put-span .ensures)
+    let a = c .before .before .before .before .before .before .before .before .before .before .before .before .before .before .before
+    .before .before .before .before .args in
+    line-put _ _ _ _ _ (a .window .now) (a .slot) (a .span) (a .zone)
+    (c .before .before .before .before .before .before .before .before .before .before .before .before .before .before .before
+    .put-name .ensures) (c .before .before .before .before .before .before .before .before .before .before .before .put-span
+    .ensures)
     (c .before .before .before .before .before .before .before .put-if-whole .ensures) (c .before .before .words .ensures)
 
 pub put-window-spec : {M : Type 1} → statement M
