@@ -127,6 +127,33 @@ fn above_the_highest(judge: &mut Judge, c: &mut Chooser) {
     }
 }
 
+// Every address about those that there are, and some far off.
+pub fn every_address() -> impl Iterator<Item = Address> {
+    (0..=44).chain([128, 255]).flat_map(|track| (0..=22).chain([255]).map(move |sector| (track, sector)))
+}
+
+pub fn valid((track, sector): Address, highest: u8) -> bool {
+    (1..=highest).contains(&track) && sector < gcr::sectors_per_track(track)
+}
+
+// Every first link, and every link of 18/1; where it leads to a sector, the chain ends there.
+fn every_link(judge: &mut Judge, c: &mut Chooser) {
+    judge.about = "every link".to_string();
+    for tracks in [35, 41, 42] {
+        for to in every_address() {
+            let mut made = disk(c, 35);
+            if valid(to, tracks) {
+                made.link(to, (0, to.1));
+            }
+            made.link((18, 0), (18, 1));
+            let from = if c.below(2) == 0 { (18, 0) } else { (18, 1) };
+            made.link(from, to);
+            made.bytes.truncate(256 * media::sectors_to(tracks));
+            judge.clear(&mut made.bytes, D64);
+        }
+    }
+}
+
 // Every track count, with and without error bytes, and lengths about each.
 fn every_size(judge: &mut Judge, c: &mut Chooser) {
     judge.about = "every D64 size, and about it".to_string();
@@ -167,6 +194,7 @@ fn longest_chain(judge: &mut Judge, c: &mut Chooser) {
 pub fn all(judge: &mut Judge, c: &mut Chooser, many: u64) {
     every_size(judge, c);
     above_the_highest(judge, c);
+    every_link(judge, c);
     longest_chain(judge, c);
     judge.about = "D64 images".to_string();
     for _ in 0..700 * many {

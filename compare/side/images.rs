@@ -1,11 +1,12 @@
 // G64 and NIB images of disks: short rings and windows with the sectors that the directory needs and some others; tables
 // and catalogues with faults; entries that overlap each other, the tables and the header; images cut short; damage.
 use crate::asked::WINDOW;
-use crate::craft::{any_spacing, background, block_of, damaged, sector, Spacing};
-use crate::disks::{disk, Address, Disk};
+use crate::craft::{any_spacing, background, block_of, damaged, sector, set, true_header, Spacing};
+use crate::disks::{address, disk, every_address, valid, Address, Disk};
 use crate::draw::Chooser;
 use crate::fdd1541::gcr;
 use crate::judge::Judge;
+use crate::windows::repeated;
 
 const G64: u32 = 1;
 const NIB: u32 = 2;
@@ -63,7 +64,7 @@ fn ring(c: &mut Chooser, disk: &Disk, list: &[Address]) -> Vec<u8> {
 
 struct G64Image {
     bytes: Vec<u8>,
-    entries: Vec<usize>,
+    entries: Vec<(u8, usize)>,
 }
 
 impl G64Image {
@@ -86,7 +87,7 @@ impl G64Image {
     fn add(&mut self, track: u8, ring: &[u8]) {
         let to = self.bytes.len();
         self.entry(2 * (usize::from(track) - 1), to);
-        self.entries.push(to);
+        self.entries.push((track, to));
         self.bytes.extend_from_slice(&(ring.len() as u16).to_le_bytes());
         self.bytes.extend_from_slice(ring);
     }
@@ -98,7 +99,7 @@ fn overlap(c: &mut Chooser, image: &mut G64Image) {
         return;
     }
     let half = c.below(70) as usize;
-    let to = c.one_of(&image.entries);
+    let (_, to) = c.one_of(&image.entries);
     let n = image.bytes.len() as u64;
     match c.below(4) {
         0 => image.entry(half, to),
@@ -111,6 +112,40 @@ fn overlap(c: &mut Chooser, image: &mut G64Image) {
         2 => image.entry(half, c.within(1, 700.min(n)) as usize),
         _ => image.entry(half, c.within(1, n) as usize),
     }
+}
+
+// A track's length bytes are those of the largest size: its ring begins behind the header, and has the tables and every
+// other ring in it, its own among them. Where another track does so too, each clears within the other's ring.
+fn whole_image(c: &mut Chooser, image: &mut G64Image) {
+    let Ok(most) = u16::try_from(image.bytes.len() - HEADER) else { return };
+    image.bytes[10..12].copy_from_slice(&most.to_le_bytes());
+    for _ in 0..2 {
+        if !image.entries.is_empty() {
+            let (track, _) = c.one_of(&image.entries);
+            image.entry(2 * (usize::from(track) - 1), 10);
+        }
+    }
+}
+
+// One block for two tracks: a header of the first before it, one of the second behind it, at the end of the second ring,
+// whose join lies just before the block.
+fn shared_block(c: &mut Chooser, disk: &Disk, image: &mut G64Image) {
+    let (first, second) = (address(c, 35), address(c, 35));
+    let at = image.bytes.len();
+    let mut part = vec![0x55; 900];
+    let sync = c.one_of(&[10, 11, 20, 20]);
+    set(&mut part, 8 * 50 - 40, 40, 1);
+    true_header(c, &mut part, 8 * 50, first.0, first.1);
+    set(&mut part, 8 * 80 - sync, sync, 1);
+    gcr::write_code(&mut part, 8 * 80, &block_of(7, &disk.payload(first), [0, 0]));
+    set(&mut part, 8 * 478 - sync, sync, 1);
+    true_header(c, &mut part, 8 * 478, second.0, second.1);
+    let long = 420 + c.below(3) as u16;
+    part[..2].copy_from_slice(&500u16.to_le_bytes());
+    part[70..72].copy_from_slice(&long.to_le_bytes());
+    image.bytes.extend_from_slice(&part);
+    image.entry(2 * (usize::from(first.0) - 1), at);
+    image.entry(2 * (usize::from(second.0) - 1), at + 70);
 }
 
 fn spoil_g64(c: &mut Chooser, image: &mut Vec<u8>) {
@@ -136,8 +171,12 @@ fn g64(c: &mut Chooser) -> Vec<u8> {
         let list = sectors(c, &made, track);
         image.add(track, &ring(c, &made, &list));
     }
-    for _ in 0..c.one_of(&[0, 0, 0, 1, 3]) {
-        overlap(c, &mut image);
+    match c.below(8) {
+        0 => overlap(c, &mut image),
+        1 => (0..3).for_each(|_| overlap(c, &mut image)),
+        2 => whole_image(c, &mut image),
+        3 => shared_block(c, &made, &mut image),
+        _ => {}
     }
     spoil_g64(c, &mut image.bytes);
     image.bytes
@@ -195,6 +234,34 @@ fn nib(c: &mut Chooser) -> Vec<u8> {
     image
 }
 
+// Every link of 18/0, to a sector that the image holds if it may.
+fn every_link(judge: &mut Judge, c: &mut Chooser) {
+    judge.about = "every link of G64 and NIB".to_string();
+    for to in every_address() {
+        let mut made = disk(c, 35);
+        made.link((18, 0), to);
+        let mut held = vec![(18, 0), (18, 1)];
+        if valid(to, 35) {
+            made.link(to, (0, to.1));
+            held.push(to);
+        }
+        let mut image = G64Image::new(84, 7928);
+        let mut file = vec![0; 256];
+        file[..14].copy_from_slice(b"MNIB-1541-RAW\x01");
+        for track in [18, to.0].into_iter().take(if valid(to, 35) && to.0 != 18 { 2 } else { 1 }) {
+            let list: Vec<Address> = held.iter().copied().filter(|&(t, _)| t == track).collect();
+            let ring = ring(c, &made, &list);
+            image.add(track, &ring);
+            file[16 + 2 * image.entries.len() - 2] = 2 * track;
+            file.extend(repeated(&ring));
+        }
+        judge.clear(&mut image.bytes, G64);
+        if c.below(4) == 0 {
+            judge.clear(&mut file, NIB);
+        }
+    }
+}
+
 // All 35 tracks as they are built, of a good disk: dear, so few of them.
 fn full_g64(c: &mut Chooser) -> Vec<u8> {
     let made = disk(c, 35);
@@ -207,6 +274,7 @@ fn full_g64(c: &mut Chooser) -> Vec<u8> {
 }
 
 pub fn all(judge: &mut Judge, c: &mut Chooser, size: u64) {
+    every_link(judge, c);
     judge.about = "G64 images".to_string();
     for k in 0..2_500 * size {
         let mut image = if k % 1_000 == 0 { full_g64(c) } else { g64(c) };

@@ -137,6 +137,24 @@ fn noise_period(c: &mut Chooser) -> Vec<u8> {
     bytes(c, n).into_iter().map(|b| b | 0x18).collect()
 }
 
+// A record of every track and every sector number, below the track's count and not.
+fn every_record(judge: &mut Judge, c: &mut Chooser) {
+    judge.about = "a record of every track and sector".to_string();
+    for track in 0..=255 {
+        for number in (0..=22).chain([128, 255]) {
+            let mut ring = vec![0x55; 380];
+            let block = block_of(7, &payload(c), [0, 0]);
+            let at = Spacing { bit: c.below(3040), ones: 40, gap: 72 };
+            sector(c, &mut ring, at, track, number, &block);
+            judge.scan(&ring, track, 0, SCAN_NUMBERS, SCAN_BYTES);
+            let n = usize::from(gcr::sectors_per_track(track));
+            judge.read(&ring, track, 0, 256 * n, n);
+            judge.sector(&ring, track, number, number % 2 == 0);
+            judge.replace(&mut ring, track, number, &[track; 256], number % 2 == 1);
+        }
+    }
+}
+
 // Each room at its limit and beside it, on rings of each refused length.
 fn rooms(judge: &mut Judge, c: &mut Chooser) {
     judge.about = "rooms and lengths".to_string();
@@ -164,6 +182,7 @@ fn rooms(judge: &mut Judge, c: &mut Chooser) {
 
 pub fn all(judge: &mut Judge, c: &mut Chooser, size: u64) {
     rooms(judge, c);
+    every_record(judge, c);
     let kinds: [(&str, u64, fn(&mut Chooser, u8) -> Vec<u8>); 6] = [
         ("pieces", 2_000, pieces),
         ("few sectors", 1_500, few_sectors),
