@@ -1,0 +1,62 @@
+use Rattle.reclaim.proofs.ClearSteps.{block-there, block-missing}
+use Rattle.geometry.proofs.D64Laws.{offset-le}
+use native.Mathlib.Omega.{arith}
+use borrow.Author.Needs.{needs}
+use Rattle.reclaim.proofs.clear.block_has_data.Statement.{statement}
+use Rattle.reclaim.proofs.clear.block_has_data.Tie as tie
+use Rattle.reclaim.proofs.clear.block_has_data.Reads as reads
+use Rattle.reclaim.proofs.clear.block_has_data.Lts as lts
+use Rattle.base.proofs.any_nonzero.Reads as any-nonzero-reads
+use Rattle.geometry.proofs.d64_place.Reads as d64-place-reads
+
+-- src/clear.rt:64:9
+d64-place-requires : tie.Need-d64-place-requires
+d64-place-requires c κs = search needs
+
+-- src/clear.rt:65:15
+add-end : tie.Need-add-end
+add-end c = omega (arith, offset-le (c .before .before .args .track) (c .before .before .args .sector))
+
+-- src/clear.rt:67:34
+sub-any-nonzero : tie.Need-sub-any-nonzero
+sub-any-nonzero c = search needs
+
+-- src/clear.rt:67:34
+part-any-nonzero-start : tie.Need-part-any-nonzero-start
+part-any-nonzero-start c = search needs
+
+-- src/clear.rt:67:34
+part-any-nonzero-end : tie.Need-part-any-nonzero-end
+part-any-nonzero-end c = search needs
+
+-- src/clear.rt:67:9
+any-nonzero-requires : tie.Need-any-nonzero-requires
+any-nonzero-requires c κs = search needs
+
+-- src/clear.rt:67:9
+returns : tie.Need-returns
+returns c =
+    let s = c .before .before .before in
+    let a = s .before .before .args in
+    block-there (a .image .now) (a .track) (a .sector) (s .d64-place .result) (s .d64-place .ensures) (c .any-nonzero .result) (omega arith)
+    (c .any-nonzero .ensures)
+
+-- src/clear.rt:61:1
+returns-2 : tie.Need-returns-2
+returns-2 c =
+    let s = c .before in
+    let a = s .before .before .args in
+    block-missing (a .image .now) (a .track) (a .sector) (s .d64-place .result) (s .d64-place .ensures) (omega arith)
+
+pub block-has-data-spec : {M : Type 1} → statement M
+block-has-data-spec =
+    tie.close
+    (tie.spec
+    d64-place-requires
+    add-end
+    sub-any-nonzero
+    part-any-nonzero-start
+    part-any-nonzero-end
+    any-nonzero-requires
+    returns
+    returns-2)
