@@ -2,17 +2,16 @@
 use crate::fdd1541::{gcr, nib, reclaim};
 use crate::inputs::{self, TRACKS};
 use crate::port;
-use crate::timing::{Case, Timed};
+use crate::timing::{now, Case, Timed};
 use std::hint::black_box;
-use std::time::Instant;
 
 fn timed(mut call: impl FnMut() + 'static) -> Timed {
     Box::new(move |calls| {
-        let start = Instant::now();
+        let start = now();
         for _ in 0..calls {
             call();
         }
-        start.elapsed()
+        now() - start
     })
 }
 
@@ -174,19 +173,19 @@ pub fn clear(name: &str, image: Vec<u8>, kind: u32) -> Case {
         name: format!("clear {name}, {free} sectors free, {changed} changed"),
         rust: Box::new(move |calls| {
             let (images, mut results) = (copies(&image, calls), Vec::with_capacity(calls as usize));
-            let start = Instant::now();
+            let start = now();
             for image in images {
                 results.push(black_box(reclaim::cleared(image, kind)));
             }
-            start.elapsed()
+            now() - start
         }),
         port: Box::new(move |calls| {
             let mut images = copies(&same, calls);
-            let start = Instant::now();
+            let start = now();
             for image in &mut images {
                 black_box(port::clear(image, kind, &mut free, &mut changed));
             }
-            start.elapsed()
+            now() - start
         }),
     }
 }
