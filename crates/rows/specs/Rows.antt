@@ -1,9 +1,9 @@
 -- Rows of sector records, by their number.
 use Prim.Native.Nat.{ℕ}
 use mathlib.Core.Bool.{Bool, true, false}
-use mathlib.Core.List.{List}
+use mathlib.Core.List.{List, _++_}
 use lib.Dec.{ltb}
-use lib.ListN.{length, getD, set, replicate}
+use lib.ListN.{length, getD, set, drop, replicate}
 use Rattle.base.specs.Choice.{pick}
 use Rattle.scan.specs.declared.SectorRecord.{SectorRecord}
 use Rattle.rows.specs.declared.Row.{Row}
@@ -30,3 +30,7 @@ noRow = record { found = false; row = zeros }
 -- row n, where there is one
 abbrev pub rowAt : List SectorRecord → ℕ → Row
 rowAt rows n = pick (hasRow rows n) (aRow (getD rows n zeros)) noRow
+
+-- records in the first rows, and the rows past the last of them as they were
+abbrev pub laid : List SectorRecord → List SectorRecord → List SectorRecord
+laid rs rows = rs ++ drop (length rs) rows
