@@ -1,6 +1,5 @@
 -- What a scan into rows answers and leaves. It needs 195 rows, whatever it finds.
 use Prim.Native.Nat.{ℕ}
-use mathlib.Core.Bool.{Bool}
 use mathlib.Core.List.{List}
 use lib.Dec.{eqb, ltb, leb}
 use lib.ListN.{length}

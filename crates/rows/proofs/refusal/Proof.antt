@@ -1,23 +1,27 @@
+use native.Mathlib.Omega.{arith}
+use Rattle.base.proofs.Tests.{eqb-yes, eqb-no, ltb-yes, ltb-no, leb-yes, leb-no}
 use Rattle.rows.proofs.refusal.Statement.{statement}
 use Rattle.rows.proofs.refusal.Tie as tie
-use Rattle.rows.proofs.refusal.Reads as reads
-use Rattle.rows.proofs.refusal.Lts as lts
 
--- src/lib.rt:68:9
 returns : tie.Need-returns
-returns c = ?
+returns c = rw (leb-no 195 _ (c .if1 .taken))
 
--- src/lib.rt:71:9
 returns-2 : tie.Need-returns-2
-returns-2 c = ?
+returns-2 c = rw (leb-yes 195 _ (c .before .if1 .left), eqb-yes _ 0 (c .if2 .taken))
 
--- src/lib.rt:74:9
 returns-3 : tie.Need-returns-3
-returns-3 c = ?
+returns-3 c = rw (
+  leb-yes 195 _ (c .before .before .if1 .left),
+  eqb-no (c .before .before .before .args .bytes) 0 (λ z. omega (arith, c .if3 .taken)),
+  ltb-yes 65535 _ (c .if3 .taken),
+)
 
--- src/lib.rt:64:1
 returns-4 : tie.Need-returns-4
-returns-4 c = ?
+returns-4 c = rw (
+  leb-yes 195 _ (c .before .before .if1 .left),
+  eqb-no (c .before .before .before .args .bytes) 0 (λ z. omega (arith, c .before .if2 .left)),
+  ltb-no 65535 _ (c .if3 .left),
+)
 
 pub refusal-spec : {M : Type 1} → statement M
 refusal-spec = tie.close (tie.spec returns returns-2 returns-3 returns-4)
