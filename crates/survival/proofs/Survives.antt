@@ -124,8 +124,8 @@ module _ (d : Dropout) (ring out statuses : List ℕ) where
             small : capacityOf (d .track) ≤ 65535
             small = subst (λ (n : ℕ). n ≤ 65535) (damaged-length d ok) (never-refused d ok .ring .small)
 
-        read-is : (Found (countOf 1 (readStatuses (damaged d) (d .track) (d .start))) ≡ trackRead (damaged d) (d .track) (d .start) out
-            statuses)
+        read-is : (Found (countOf 1 (readStatuses (damaged d) (d .track) (d .start)))
+            ≡ trackRead (damaged d) (d .track) (d .start) out statuses)
             × (readPayloads (damaged d) (d .track) (d .start) ++ drop (256 * sectorsOf (d .track)) out
             ≡ trackPayloads (damaged d) (d .track) (d .start) out statuses)
             × (readStatuses (damaged d) (d .track) (d .start) ++ drop (sectorsOf (d .track)) statuses

@@ -6,46 +6,31 @@ use lib.Seq.{length-take-le}
 use borrow.Author.Needs.{needs}
 use Rattle.survival.proofs.read_after_dropout.Statement.{statement}
 use Rattle.survival.proofs.read_after_dropout.Tie as tie
-use Rattle.survival.proofs.read_after_dropout.Reads as reads
-use Rattle.survival.proofs.read_after_dropout.Lts as lts
-use Rattle.geometry.proofs.sectors_per_track.Reads as sectors-per-track-reads
-use Rattle.geometry.proofs.track_capacity.Reads as track-capacity-reads
-use Rattle.ring.proofs.force_zero.Reads as force-zero-reads
-use Rattle.scan.proofs.decode_track_from.Reads as decode-track-from-reads
-use Rattle.track.proofs.build_track_with_errors.Reads as build-track-with-errors-reads
 
--- src/lib.rt:26:9
 returns : tie.Need-returns
 returns c = sum-wrong _ _ _ _ (c .if1 .taken)
 
--- src/lib.rt:28:9
 track-capacity-requires : tie.Need-track-capacity-requires
 track-capacity-requires c κs = search needs
 
--- src/lib.rt:30:9
 returns-2 : tie.Need-returns-2
 returns-2 c = ring-short _ _ _ _ (c .before .before .if1 .left) (omega (arith, c .before .track-capacity .ensures, c .if2 .taken))
 
--- src/lib.rt:32:17
 sectors-per-track-requires : tie.Need-sectors-per-track-requires
 sectors-per-track-requires c κs = search needs
 
--- src/lib.rt:32:17
 cast-count : tie.Need-cast-count
 cast-count c = search needs
 
--- src/lib.rt:33:20
 mul-if3 : tie.Need-mul-if3
 mul-if3 c = search needs
 
--- src/lib.rt:34:9
 returns-3 : tie.Need-returns-3
 returns-3 c =
     let y = c .before .before in
     out-short _ _ _ _ (y .before .before .if1 .left) (omega (arith, y .before .track-capacity .ensures, y .if2 .left))
     (inl (omega (arith, c .before .sectors-per-track .ensures .0, c .if3 .taken)))
 
--- src/lib.rt:37:9
 returns-4 : tie.Need-returns-4
 returns-4 c =
     let y = c .before .before .before in
@@ -55,51 +40,42 @@ returns-4 c =
       omega (arith, c .before .before .sectors-per-track .ensures .0, c .if4 .taken),
     ))
 
--- src/lib.rt:39:16
 sub-part : tie.Need-sub-part
 sub-part c = search needs
 
--- src/lib.rt:39:16
 part-part-start : tie.Need-part-part-start
 part-part-start c = search needs
 
--- src/lib.rt:39:16
 part-part-end : tie.Need-part-part-end
 part-part-end c = search needs
 
--- src/lib.rt:40:5
 build-track-with-errors-requires : tie.Need-build-track-with-errors-requires
 build-track-with-errors-requires c κs = search needs
 
--- src/lib.rt:41:5
 force-zero-requires : tie.Need-force-zero-requires
 force-zero-requires c κs = search needs
 
--- src/lib.rt:42:5
 decode-track-from-requires : tie.Need-decode-track-from-requires
 decode-track-from-requires c κs = search needs
 
--- src/lib.rt:7:1
 same-length : tie.Need-same-length
 same-length c = search needs
 
--- src/lib.rt:7:1
 same-length-2 : tie.Need-same-length-2
 same-length-2 c = search needs
 
--- src/lib.rt:7:1
 same-length-3 : tie.Need-same-length-3
 same-length-3 c = search needs
 
--- src/lib.rt:7:1
 returns-5 : tie.Need-returns-5
 returns-5 c =
-    let a = c .before .before .before .before .before .before .decode-track-from in
-    let f = c .before .before .before .before .before .before .before .before .before .before .before .before .force-zero in
-    let b = c .before .before .before .before .before .before .before .before .before .before .before .before .before .before .before
-    .before .build-track-with-errors in
-    let y = c .before .before .before .before .before .before .before .before .before .before .before .before .before .before .before
-    .before .before .before .before in
+    let d = c .before .before .before .before .before .before in
+    let e = d .before .before .before .before .before .before in
+    let t = e .before .before .before .before in
+    let a = d .decode-track-from in
+    let f = e .force-zero in
+    let b = t .build-track-with-errors in
+    let y = t .before .before .before in
     let z = y .before .before .before in
     let k = z .before .track-capacity .ensures in
     let m = y .before .before .sectors-per-track .ensures in

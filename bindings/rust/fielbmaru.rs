@@ -1,0 +1,396 @@
+//! Fielbmaru: Commodore 1541 disk images, for Rust.
+//!
+//! Safe functions over the exported functions of `libfielbmaru.a`, each of which is proved against a definition, for every input.
+//! What is added here is little: lengths and pointers are those of slices, and the answer is a `Result`. Refused, nothing that
+//! was lent has changed.
+//!
+//! Build and link with no cargo (x86-64 Linux):
+//!
+//! ```text
+//! rt staticlib fielbmaru
+//! rustc --edition 2021 -L native=target/staticlib mine.rs          (mine.rs says: mod fielbmaru;)
+//! ```
+//!
+//! A ring is one circular track, 1 to 65,535 bytes as they pass under the head, high bit first. A payload is the 256 bytes of a
+//! sector. A start bit is any number; it is taken modulo the ring's bits.
+//!
+//! ```
+//! use fielbmaru::Refusal;
+//!
+//! let hello = [0x48; 256];
+//! let mut out = [0; fielbmaru::track_bytes(18)];
+//! let ring = fielbmaru::build_track(18, &hello, &[], 0x41, 0x30, &mut out).unwrap();
+//! assert_eq!(fielbmaru::read_unique(ring, 18, 0), Ok(hello));
+//! ring[60..68].fill(0);
+//! assert_eq!(fielbmaru::read_unique(ring, 18, 0), Err(Refusal::NoRecord));
+//! ```
+
+use std::fmt;
+
+/// Why the library did nothing. The numbers are those of the library.
+#[derive(Clone, Copy, Debug, PartialEq, Eq, Hash)]
+pub enum Refusal {
+    /// The ring has no byte.
+    RingEmpty = 1,
+    /// The ring has more than 65,535 bytes.
+    RingTooLong = 2,
+    /// D64 size, G64 or NIB length or signature is wrong.
+    WrongImage = 3,
+    /// G64 counts or entries, NIB catalogue or total length are wrong; a slot above 83.
+    WrongEntries = 4,
+    /// Track 18 is missing, or 18/0 is not readable.
+    NoDirectory = 5,
+    /// A directory link is out of range, repeated, or unreadable.
+    WrongLink = 6,
+    /// A lent output is shorter than needed.
+    NoRoom = 7,
+    /// NIB encoding with no ring.
+    NoRing = 8,
+    /// More than 195 records: proved to happen on no ring.
+    TooManyRecords = 9,
+    /// Payload bytes no multiple of 256; ring bytes not the sum of the ring lengths.
+    WrongSum = 10,
+    /// No valid record of that sector.
+    NoRecord = 11,
+    /// Several records (unique rule), or differing ones (consistent rule).
+    Ambiguous = 12,
+    /// A five-bit symbol outside the table; no function here answers it.
+    IllegalSymbol = 13,
+}
+
+const REFUSALS: [Refusal; 13] = [
+    Refusal::RingEmpty,
+    Refusal::RingTooLong,
+    Refusal::WrongImage,
+    Refusal::WrongEntries,
+    Refusal::NoDirectory,
+    Refusal::WrongLink,
+    Refusal::NoRoom,
+    Refusal::NoRing,
+    Refusal::TooManyRecords,
+    Refusal::WrongSum,
+    Refusal::NoRecord,
+    Refusal::Ambiguous,
+    Refusal::IllegalSymbol,
+];
+
+impl fmt::Display for Refusal {
+    fn fmt(&self, f: &mut fmt::Formatter<'_>) -> fmt::Result {
+        write!(f, "refused {} ({:?})", *self as u8, self)
+    }
+}
+
+impl std::error::Error for Refusal {}
+
+/// 0 is done; every other answer is the number of a refusal.
+fn done(answer: u64) -> Result<(), Refusal> {
+    match answer {
+        0 => Ok(()),
+        number => Err(REFUSALS[number as usize - 1]),
+    }
+}
+
+/// The numbers that a scan needs for its rows, and the bytes for its payloads: 195 records, whatever is found.
+pub const SCAN_ROWS: usize = 390;
+pub const SCAN_PAYLOADS: usize = 49920;
+
+/// The bytes of a NIB window, the bytes before the first one, and the half-track slots; slot 2 * (t - 1) is track t.
+pub const WINDOW: usize = 8192;
+pub const NIB_HEAD: usize = 256;
+pub const SLOTS: usize = 84;
+
+/// The statuses of [`decode_track`].
+pub const HANDED_OUT: u8 = 1;
+pub const MISSING: u8 = 2;
+
+/// The bytes of a built track. (A published number, for sizing buffers; check.rs holds it against the library.)
+pub const fn track_bytes(track: u8) -> usize {
+    match track {
+        1..=17 => 7692,
+        18..=24 => 7142,
+        25..=30 => 6666,
+        _ => 6250,
+    }
+}
+
+/// The sectors of a track. (As [`track_bytes`].)
+pub const fn sectors(track: u8) -> usize {
+    match track {
+        1..=17 => 21,
+        18..=24 => 19,
+        25..=30 => 18,
+        _ => 17,
+    }
+}
+
+/// Builds a track at the front of `out`, and hands back that part; what follows it is kept.
+///
+/// `payloads` has 256 bytes a sector from sector 0 on, `codes` an error code a sector, as in the error bytes of a D64. Sectors
+/// without are zeros, and code 1, which is no error; surplus is not looked at.
+///
+/// Refused: `WrongSum` (payload bytes no multiple of 256), `NoRoom` (`out` is shorter than [`track_bytes`]).
+pub fn build_track<'a>(
+    track: u8,
+    payloads: &[u8],
+    codes: &[u8],
+    id1: u8,
+    id2: u8,
+    out: &'a mut [u8],
+) -> Result<&'a mut [u8], Refusal> {
+    done(unsafe {
+        linked::fielbmaru_build_track(
+            track,
+            payloads.as_ptr(),
+            payloads.len(),
+            codes.as_ptr(),
+            codes.len(),
+            id1,
+            id2,
+            out.as_mut_ptr(),
+            out.len(),
+        )
+    })?;
+    Ok(&mut out[..track_bytes(track)])
+}
+
+/// Lists every sector record that one revolution from the start bit on meets, and answers how many there are.
+///
+/// `rows` gets two numbers a record, its sector and the bit where its data block begins (counted on past the ring's end),
+/// `payloads` 256 bytes a record. Room is needed for [`SCAN_ROWS`] and [`SCAN_PAYLOADS`].
+///
+/// Refused: `NoRoom`, `RingEmpty`, `RingTooLong`.
+pub fn scan(
+    ring: &[u8],
+    track: u8,
+    start_bit: u64,
+    rows: &mut [u64],
+    payloads: &mut [u8],
+) -> Result<usize, Refusal> {
+    let mut count = 0;
+    done(unsafe {
+        linked::fielbmaru_scan(
+            ring.as_ptr(),
+            ring.len(),
+            track,
+            start_bit,
+            rows.as_mut_ptr(),
+            rows.len(),
+            payloads.as_mut_ptr(),
+            payloads.len(),
+            &mut count,
+        )
+    })?;
+    Ok(count as usize)
+}
+
+/// Reads all sectors of a track, each by its first record, and answers how many were found.
+///
+/// `payloads` gets 256 bytes a sector, zeros for a missing one; `statuses` gets [`HANDED_OUT`] or [`MISSING`] a sector.
+///
+/// Refused: `NoRoom` (less than 256 bytes, or one status, for each of [`sectors`]), `RingEmpty`, `RingTooLong`.
+pub fn decode_track(
+    ring: &[u8],
+    track: u8,
+    start_bit: u64,
+    payloads: &mut [u8],
+    statuses: &mut [u8],
+) -> Result<usize, Refusal> {
+    let mut found = 0;
+    done(unsafe {
+        linked::fielbmaru_decode_track(
+            ring.as_ptr(),
+            ring.len(),
+            track,
+            start_bit,
+            payloads.as_mut_ptr(),
+            payloads.len(),
+            statuses.as_mut_ptr(),
+            statuses.len(),
+            &mut found,
+        )
+    })?;
+    Ok(found as usize)
+}
+
+/// Reads a sector of which the ring, scanned from bit 0, has exactly one record.
+///
+/// Refused: `RingEmpty`, `RingTooLong`, `NoRecord`, `Ambiguous` (several records).
+pub fn read_unique(ring: &[u8], track: u8, sector: u8) -> Result<[u8; 256], Refusal> {
+    let mut out = [0; 256];
+    done(unsafe { linked::fielbmaru_read_unique(ring.as_ptr(), ring.len(), track, sector, &mut out) })?;
+    Ok(out)
+}
+
+/// Reads a sector of which the ring, scanned from bit 0, has one or more records, all with the same payload.
+///
+/// Refused: `RingEmpty`, `RingTooLong`, `NoRecord`, `Ambiguous` (differing records).
+pub fn read_consistent(ring: &[u8], track: u8, sector: u8) -> Result<[u8; 256], Refusal> {
+    let mut out = [0; 256];
+    done(unsafe { linked::fielbmaru_read_consistent(ring.as_ptr(), ring.len(), track, sector, &mut out) })?;
+    Ok(out)
+}
+
+/// Replaces the payload of a sector that [`read_unique`] reads; refused as that is.
+pub fn replace_unique(ring: &mut [u8], track: u8, sector: u8, data: &[u8; 256]) -> Result<(), Refusal> {
+    done(unsafe { linked::fielbmaru_replace_unique(ring.as_mut_ptr(), ring.len(), track, sector, data) })
+}
+
+/// Replaces the payload of a sector that [`read_consistent`] reads, in each of its records; refused as that is.
+pub fn replace_consistent(ring: &mut [u8], track: u8, sector: u8, data: &[u8; 256]) -> Result<(), Refusal> {
+    done(unsafe { linked::fielbmaru_replace_consistent(ring.as_mut_ptr(), ring.len(), track, sector, data) })
+}
+
+/// The ring that a NIB window shows: its first bytes; none of a window that is not [`WINDOW`] bytes. The zone is taken modulo 4.
+pub fn orbit(window: &[u8], zone: u8) -> &[u8] {
+    let span = unsafe { linked::fielbmaru_orbit(window.as_ptr(), window.len(), zone) };
+    &window[..span as usize]
+}
+
+/// A slot of a NIB file: its ring, where that begins in the image, and its zone, 0 to 3.
+#[derive(Clone, Copy, Debug, PartialEq, Eq)]
+pub struct Slot<'a> {
+    pub ring: &'a [u8],
+    pub at: usize,
+    pub zone: u8,
+}
+
+/// A slot of a NIB file, if the file has it.
+///
+/// Refused: `WrongImage`, `WrongEntries` (also for a slot above 83).
+pub fn nib_slot(image: &[u8], slot: u64) -> Result<Option<Slot<'_>>, Refusal> {
+    let (mut at, mut span, mut zone) = (0, 0, 0);
+    done(unsafe { linked::fielbmaru_nib_slot(image.as_ptr(), image.len(), slot, &mut at, &mut span, &mut zone) })?;
+    if span == 0 {
+        return Ok(None);
+    }
+    let (at, span) = (at as usize, span as usize);
+    Ok(Some(Slot { ring: &image[at..at + span], at, zone: zone as u8 }))
+}
+
+/// Makes a NIB file of rings at the front of `out`, each ring repeated over a window of its own, and answers the file's size.
+///
+/// `lengths` and `zones` have a number a slot, from slot 0 on: length 0 is a slot without, missing numbers are 0, those after
+/// the 84th are not looked at. `rings` has the bytes of all rings, joined in the order of the slots.
+///
+/// Refused: `WrongSum` (the ring bytes are not the sum of the lengths), `RingTooLong`, `NoRing`, `NoRoom`.
+pub fn encode_nib(lengths: &[u64], zones: &[u8], rings: &[u8], out: &mut [u8]) -> Result<usize, Refusal> {
+    let mut written = 0;
+    done(unsafe {
+        linked::fielbmaru_encode_nib(
+            lengths.as_ptr(),
+            lengths.len(),
+            zones.as_ptr(),
+            zones.len(),
+            rings.as_ptr(),
+            rings.len(),
+            out.as_mut_ptr(),
+            out.len(),
+            &mut written,
+        )
+    })?;
+    Ok(written as usize)
+}
+
+/// What clearing found: the free sectors, but for 18/0 and the directory's, and how many of them were cleared, since they read
+/// and had a byte that was not zero.
+#[derive(Clone, Copy, Debug, PartialEq, Eq)]
+pub struct Cleared {
+    pub free_sectors: u64,
+    pub changed: u64,
+}
+
+type Clearer = unsafe extern "C" fn(*mut u8, usize, *mut u64, *mut u64) -> u64;
+
+fn clear(clearer: Clearer, image: &mut [u8]) -> Result<Cleared, Refusal> {
+    let (mut free_sectors, mut changed) = (0, 0);
+    done(unsafe { clearer(image.as_mut_ptr(), image.len(), &mut free_sectors, &mut changed) })?;
+    Ok(Cleared { free_sectors, changed })
+}
+
+/// Clears the sectors of tracks 1 to 35 of a D64 image that its BAM has free.
+///
+/// Refused: `WrongImage`, `NoDirectory`, `WrongLink`.
+pub fn clear_d64(image: &mut [u8]) -> Result<Cleared, Refusal> {
+    clear(linked::fielbmaru_clear_d64, image)
+}
+
+/// The same for a G64 image, whose sectors are read by the unique rule; those that cannot be read are kept.
+///
+/// Refused: `WrongImage`, `WrongEntries`, `NoDirectory`, `WrongLink`.
+pub fn clear_g64(image: &mut [u8]) -> Result<Cleared, Refusal> {
+    clear(linked::fielbmaru_clear_g64, image)
+}
+
+/// The same for a NIB image, whose sectors are read by the consistent rule on each whole window.
+///
+/// Refused: `WrongImage`, `WrongEntries`, `NoDirectory`, `WrongLink`.
+pub fn clear_nib(image: &mut [u8]) -> Result<Cleared, Refusal> {
+    clear(linked::fielbmaru_clear_nib, image)
+}
+
+/// The functions as they are linked: include/fielbmaru.h, line by line.
+mod linked {
+    #[link(name = "fielbmaru", kind = "static")]
+    extern "C" {
+        pub fn fielbmaru_build_track(
+            track: u8,
+            payloads: *const u8,
+            payloads_len: usize,
+            codes: *const u8,
+            codes_len: usize,
+            id1: u8,
+            id2: u8,
+            out: *mut u8,
+            out_len: usize,
+        ) -> u64;
+        pub fn fielbmaru_scan(
+            ring: *const u8,
+            ring_len: usize,
+            track: u8,
+            start_bit: u64,
+            rows: *mut u64,
+            rows_len: usize,
+            payloads: *mut u8,
+            payloads_len: usize,
+            count: *mut u64,
+        ) -> u64;
+        pub fn fielbmaru_decode_track(
+            ring: *const u8,
+            ring_len: usize,
+            track: u8,
+            start_bit: u64,
+            payloads: *mut u8,
+            payloads_len: usize,
+            statuses: *mut u8,
+            statuses_len: usize,
+            found: *mut u64,
+        ) -> u64;
+        pub fn fielbmaru_read_unique(ring: *const u8, ring_len: usize, track: u8, sector: u8, out: *mut [u8; 256]) -> u64;
+        pub fn fielbmaru_read_consistent(ring: *const u8, ring_len: usize, track: u8, sector: u8, out: *mut [u8; 256]) -> u64;
+        pub fn fielbmaru_replace_unique(ring: *mut u8, ring_len: usize, track: u8, sector: u8, data: *const [u8; 256]) -> u64;
+        pub fn fielbmaru_replace_consistent(ring: *mut u8, ring_len: usize, track: u8, sector: u8, data: *const [u8; 256]) -> u64;
+        pub fn fielbmaru_orbit(window: *const u8, window_len: usize, zone: u8) -> u64;
+        pub fn fielbmaru_nib_slot(
+            image: *const u8,
+            image_len: usize,
+            slot: u64,
+            at: *mut u64,
+            span: *mut u64,
+            zone: *mut u64,
+        ) -> u64;
+        pub fn fielbmaru_encode_nib(
+            lengths: *const u64,
+            lengths_len: usize,
+            zones: *const u8,
+            zones_len: usize,
+            rings: *const u8,
+            rings_len: usize,
+            out: *mut u8,
+            out_len: usize,
+            written: *mut u64,
+        ) -> u64;
+        pub fn fielbmaru_clear_d64(image: *mut u8, image_len: usize, free_sectors: *mut u64, changed: *mut u64) -> u64;
+        pub fn fielbmaru_clear_g64(image: *mut u8, image_len: usize, free_sectors: *mut u64, changed: *mut u64) -> u64;
+        pub fn fielbmaru_clear_nib(image: *mut u8, image_len: usize, free_sectors: *mut u64, changed: *mut u64) -> u64;
+    }
+}
