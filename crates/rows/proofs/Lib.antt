@@ -1,0 +1,5 @@
+pub mod Records
+pub mod Again
+pub mod Laying
+pub mod Refusing
+pub mod Calls
