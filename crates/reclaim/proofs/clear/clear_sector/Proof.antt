@@ -34,7 +34,8 @@ returns-2 c =
     let a = e .before .before .before .args in
     turn-same (kindAt (a .kind) (a .place)) (isFree (bamFree (a .bam .now)) (a .marks .now)) (a .track) (a .sector) (a .image .now)
     (a .counts)
-    (sym (e .before .to-clear .ensures) ∙ not-false _ (e .if1 .left)) (kindAt (a .kind) (a .place) .read (a .image .now) (a .track) (a .sector)) refl
+    (sym (e .before .to-clear .ensures) ∙ not-false _ (e .if1 .left))
+    (kindAt (a .kind) (a .place) .read (a .image .now) (a .track) (a .sector)) refl
     (sym (h .has-data-here .ensures) ∙ not-true _ (c .before .if2 .taken))
 
 zero-here-requires : tie.Need-zero-here-requires
@@ -57,7 +58,8 @@ returns-3 c =
     let a = e .before .before .before .args in
     turn-changed (kindAt (a .kind) (a .place)) (isFree (bamFree (a .bam .now)) (a .marks .now)) (a .track) (a .sector) (a .image .now)
     (a .counts)
-    (sym (e .before .to-clear .ensures) ∙ not-false _ (e .if1 .left)) (kindAt (a .kind) (a .place) .read (a .image .now) (a .track) (a .sector)) refl
+    (sym (e .before .to-clear .ensures) ∙ not-false _ (e .if1 .left))
+    (kindAt (a .kind) (a .place) .read (a .image .now) (a .track) (a .sector)) refl
     (sym (h .has-data-here .ensures) ∙ not-false _ (z .before .before .if2 .left)) (z .zero-here .last .0) (z .zero-here .ensures)
 
 pub clear-sector-spec : {M : Type 1} → statement M

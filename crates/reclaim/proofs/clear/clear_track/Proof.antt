@@ -49,7 +49,8 @@ clear-sector-requires c κs =
       record { some = omega arith; highest = omega arith; below = s },
       (
         subst (InPlace (a .kind) (r .ring-place .result)) (sym (l .loop .inv .1))
-            (in-place (a .table) (a .track) (a .kind) (length (a .image .now)) (r .before .before .before .pre .1 .0) (r .ring-place .result)
+            (in-place (a .table) (a .track) (a .kind) (length (a .image .now)) (r .before .before .before .pre .1 .0)
+            (r .ring-place .result)
             (r .ring-place .ensures)),
         (
           omega (arith, ap (λ (v : Work). v .free) e, sectors-counted kind sectorsOf free (a .track) (l .loop .sector) w, most, below),
@@ -73,9 +74,11 @@ loop-again c =
       omega arith,
       k .clear-sector .kept .0 ∙ l .loop .inv .1,
       k .clear-sector .ensures
-          ∙ ap (clearSector (kindAt (a .kind) (r .ring-place .result)) (isFree (bamFree (a .bam .now)) (a .marks .now)) (a .track) (l .loop .sector))
+          ∙ ap (clearSector (kindAt (a .kind) (r .ring-place .result)) (isFree (bamFree (a .bam .now)) (a .marks .now)) (a .track)
+          (l .loop .sector))
           (l .loop .inv .2)
-          ∙ sym (sectors-next (kindAt (a .kind) (r .ring-place .result)) sectorsOf (isFree (bamFree (a .bam .now)) (a .marks .now)) (a .track)
+          ∙ sym (sectors-next (kindAt (a .kind) (r .ring-place .result)) sectorsOf (isFree (bamFree (a .bam .now)) (a .marks .now))
+          (a .track)
           (l .loop .sector) (work (a .image .now) (a .start))),
     )
 
