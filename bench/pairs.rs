@@ -56,6 +56,9 @@ pub fn read(disk: &[u8], track: u8) -> Case {
     let ring = inputs::ring(disk, track);
     let same = ring.clone();
     let (mut bytes, mut statuses, mut found) = (vec![0; 21 * 256], vec![0; 21], 0);
+    let sectors = gcr::decode_track_from(&ring, track, 0).expect("a ring that is not empty");
+    assert_eq!(port::read(&ring, track, 0, &mut bytes, &mut statuses, &mut found), 0);
+    assert!(sectors.iter().zip(bytes.chunks(256)).all(|(s, payload)| s.is_some_and(|s| s == payload)));
     case(
         format!("read track {track}"),
         move || {
@@ -122,6 +125,10 @@ pub fn decode(disk: &[u8], tracks: u8) -> Case {
     let file = inputs::nib(disk, tracks);
     let same = file.clone();
     let (mut at, mut span, mut zone) = (0, 0, 0);
+    for (slot, ring) in nib::decode_nib(&file).expect("a good file").rings.iter().enumerate() {
+        assert_eq!(port::slot(&file, slot as u64, [&mut at, &mut span, &mut zone]), 0);
+        assert!(file[at as usize..(at + span) as usize] == **ring);
+    }
     case(
         format!("decode a NIB of {tracks} windows, all 84 slots"),
         move || {
