@@ -27,7 +27,7 @@ module _ (ring : List ℕ) (track start : ℕ) (rows : List SectorRecord) where
   number = refusalOf (length rows) (length ring)
 
   -- ---- by the tests for room, an empty ring and a ring too long
-  by-tests : {A : Type 0} (refuse : ℕ → A) (good : A) (a b c : Bool) → leb 195 (length rows) ≡ a → eqb (length ring) 0 ≡ b
+  pub by-tests : {A : Type 0} (refuse : ℕ → A) (good : A) (a b c : Bool) → leb 195 (length rows) ≡ a → eqb (length ring) 0 ≡ b
       → ltb 65535 (length ring) ≡ c
       → unlessRefused (leb 195 (length rows)) ring track start refuse good ≡ pick (eqb number 0) good (refuse number)
   by-tests refuse good false b c p q r = rw p

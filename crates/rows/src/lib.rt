@@ -4,8 +4,8 @@ ghost use Prim.Native.Nat.{_≤_};
 ghost use lib.ListN.{length};
 ghost use Rattle.ring.specs.Bit.{IsRing};
 ghost use Rattle.scan.specs.Scan.{records};
-ghost use Rattle.rows.specs.Rows.{hasRow, stored, rowAt, aRow, noRow, laid};
-ghost use Rattle.rows.specs.Answers.{refusalOf, scannedInto, rowsAfter};
+ghost use Rattle.rows.specs.Rows.{hasRow, stored, zeros, rowAt, aRow, noRow, laid};
+ghost use Rattle.rows.specs.Answers.{refusalOf, scannedInto, rowsAfter, ofScan, recordsOrNone};
 use scan::Scanned;
 use scan::SectorRecord;
 
@@ -35,14 +35,20 @@ fn a_row(row: SectorRecord) -> Row
     }
 }
 
-fn no_row() -> Row
-    ensures { λ r. ⌜ r ≡ noRow ⌝ }
+fn zero_record() -> SectorRecord
+    ensures { λ r. ⌜ r ≡ zeros ⌝ }
 {
-    let row = SectorRecord {
+    SectorRecord {
         sector: 0,
         place: 0,
         payload: [0u8; 256],
-    };
+    }
+}
+
+fn no_row() -> Row
+    ensures { λ r. ⌜ r ≡ noRow ⌝ }
+{
+    let row = zero_record();
     Row {
         found: false,
         row: row,
@@ -111,4 +117,28 @@ pub fn scan_into_rows(
     } else {
         Scanned::Refused(number)
     }
+}
+
+// Row n of a scan that gave this answer: no row where the scan was refused, or past its last record.
+fn of_scan(row: Row, n: usize, answer: Scanned) -> Row
+    ensures { λ r. ⌜ r ≡ ofScan row n answer ⌝ }
+{
+    let Scanned::Records(count) = answer else {
+        return no_row();
+    };
+    if n < count {
+        return row;
+    }
+    no_row()
+}
+
+// Record n of a scan, where there is one: for callers that hold no list of records.
+pub fn nth_record(ring: &[u8], track: u8, start_bit: usize, n: usize) -> Row
+    ensures { λ r. ⌜ r ≡ rowAt (recordsOrNone (now (ring .entry)) track «start_bit») n ⌝ }
+{
+    let zeros = zero_record();
+    let mut rows = [zeros; 195];
+    let answer = scan_into_rows(ring, track, start_bit, &mut rows);
+    let row = read_row(&rows, n);
+    of_scan(row, n, answer)
 }
