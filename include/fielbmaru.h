@@ -15,8 +15,8 @@
  * answer.
  *
  * WHAT A CALLER SEES TO. The proof says nothing of a call that breaks these:
- *   - a pointer is never NULL, also where its length is 0, and leads to as many bytes (or uint64_t, aligned) as its length says;
- *     uint8_t x[256] leads to 256 bytes;
+ *   - a pointer is never NULL, also where its length is 0, and leads to as many bytes (or uint64_t or records, aligned) as its
+ *     length says; uint8_t x[256] leads to 256 bytes;
  *   - what a function writes to (any pointer without const) overlaps nothing else that is lent in the same call, and no other
  *     thread touches it meanwhile.
  *
@@ -64,6 +64,7 @@ extern "C" {
 #define FIELBMARU_MAX_RING       65535  /* bytes of the longest ring */
 #define FIELBMARU_SCAN_ROWS        390  /* numbers that a scan needs for its rows: 195 rows of two */
 #define FIELBMARU_SCAN_PAYLOADS  49920  /* bytes that a scan needs for its payloads: 195 of 256 */
+#define FIELBMARU_SCAN_RECORDS     195  /* records that a scan into a list of them needs */
 #define FIELBMARU_WINDOW          8192  /* bytes of a NIB window */
 #define FIELBMARU_NIB_HEAD         256  /* bytes before the first window of a NIB file */
 #define FIELBMARU_SLOTS             84  /* half-track slots of a NIB file; slot 2 * (t - 1) is track t */
@@ -109,6 +110,22 @@ uint64_t fielbmaru_build_track(uint8_t track, const uint8_t *payloads, size_t pa
  */
 uint64_t fielbmaru_scan(const uint8_t *ring, size_t ring_len, uint8_t track, uint64_t start_bit, uint64_t *rows, size_t rows_len,
                         uint8_t *payloads, size_t payloads_len, uint64_t *count);
+
+/* A record: what is a row and a payload above. 272 bytes, with nothing between (examples/c/records.c holds the layout). */
+struct fielbmaru_record {
+    uint64_t sector;
+    uint64_t place;  /* the bit where its data block begins */
+    uint8_t payload[256];
+};
+
+/*
+ * Lists the same in an array of records. records_len counts records: FIELBMARU_SCAN_RECORDS are needed, whatever is found.
+ * Records behind the last one found are kept.
+ *
+ * Refused: NO_ROOM, RING_EMPTY, RING_TOO_LONG, TOO_MANY_RECORDS.
+ */
+uint64_t fielbmaru_scan_records(const uint8_t *ring, size_t ring_len, uint8_t track, uint64_t start_bit,
+                                struct fielbmaru_record *records, size_t records_len, uint64_t *count);
 
 /*
  * Reads all sectors of a track, each by its first record.

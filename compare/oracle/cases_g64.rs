@@ -69,6 +69,9 @@ fn refusals(c: &mut Cases, n: u32) {
         header(c, 0, 84, most);
         clear(c, n, G64);
     }
+}
+
+fn wrong_entries(c: &mut Cases, n: u32) {
     c.heading("entries");
     for to in [1, 10, 683, n - 2, n - 1, n, n + 1, u32::MAX, u32::MAX - 1, 0x8000_0000] {
         again(c, n);
@@ -247,6 +250,7 @@ pub fn all(c: &mut Cases) {
     let n = image(c, KEPT, &TRACKS);
     good(c, n);
     refusals(c, n);
+    wrong_entries(c, n);
     links(c);
     bitmaps(c);
     overlaps(c);

@@ -275,6 +275,10 @@ fn encodings(c: &mut Cases) {
     c.heading("a file made, and read again");
     encode(c, room, &[6247, 0, 6662, 0, 7137, 7720], 6);
     whole(c, 4);
+}
+
+fn encodings_refused(c: &mut Cases) {
+    let room = 256 + 4 * WINDOW;
     c.heading("refusals");
     encode(c, room, &[], 0);
     encode(c, room, &[0, 0, 0], 3);
@@ -301,4 +305,5 @@ pub fn files(c: &mut Cases) {
     faults(c);
     full_file(c);
     encodings(c);
+    encodings_refused(c);
 }

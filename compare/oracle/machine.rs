@@ -1,6 +1,5 @@
 // Rows carried out in order on two buffers. Lower and upper case letters differ: a row either changes a buffer and
 // prints nothing, or asks the original and prints one line.
-use crate::answers;
 use crate::draw::Bytes;
 use crate::fdd1541::gcr;
 use crate::rows::{self, Row};
@@ -14,9 +13,25 @@ pub const LENGTHS: usize = 0x33400;
 pub const ZONES: usize = 0x33800;
 pub const SCRATCH: usize = 0x33A00;
 
-struct Machine {
+// Who is asked: each answer is a line, with what was lent as it then is.
+pub trait Asks {
+    fn heading(&mut self, row: &str) -> String;
+    fn build(&mut self, track_and_ids: [u8; 3], payloads: &[u8], codes: &[u8], room: &mut [u8]) -> String;
+    fn scan(&mut self, ring: &[u8], track: u8, start: u64, rows: usize) -> String;
+    fn read(&mut self, ring: &[u8], track: u8, start: u64) -> String;
+    fn sector(&mut self, ring: &[u8], track: u8, sector: u8, unique: bool) -> String;
+    fn replace(&mut self, ring: &mut [u8], track: u8, sector: u8, bytes: &[u8; 256], unique: bool) -> String;
+    fn orbit(&mut self, window: &[u8], zone: u8) -> String;
+    fn nib(&mut self, file: &[u8]) -> String;
+    fn slot(&mut self, file: &[u8], slot: u64) -> String;
+    fn encode_nib(&mut self, lengths: &[u64], zones: &[u8], joined: &[u8], room: &mut [u8]) -> String;
+    fn clear(&mut self, image: &mut [u8], kind: u32) -> String;
+}
+
+struct Machine<'a> {
     target: Vec<u8>,
     source: Vec<u8>,
+    asks: &'a mut dyn Asks,
 }
 
 fn part(bytes: &[u8], at: u32, n: u32) -> &[u8] {
@@ -27,7 +42,7 @@ fn part_mut(bytes: &mut [u8], at: u32, n: u32) -> &mut [u8] {
     &mut bytes[at as usize..at as usize + n as usize]
 }
 
-impl Machine {
+impl Machine<'_> {
     // The buffer that the last number of a row names.
     fn named(&mut self, r: &Row) -> &mut [u8] {
         if r.f[5] == 0 {
@@ -106,28 +121,45 @@ impl Machine {
         let payloads = part(&self.source, r.f[3], r.f[4]);
         let codes = part(&self.source, CODES as u32, r.f[5]);
         let [_, track, id1, id2] = r.f[2].to_be_bytes();
-        answers::build(track, payloads, codes, id1, id2, part_mut(&mut self.target, r.f[0], r.f[1]))
+        self.asks.build([track, id1, id2], payloads, codes, part_mut(&mut self.target, r.f[0], r.f[1]))
     }
 
     fn replace(&mut self, r: &Row, unique: bool) -> String {
         let bytes: [u8; 256] = part(&self.source, r.f[4], 256).try_into().expect("256 bytes");
-        answers::replace(self.ring(r), r.f[2] as u8, r.f[3] as u8, &bytes, unique)
+        let ring = part_mut(&mut self.target, r.f[0], r.f[1]);
+        self.asks.replace(ring, r.f[2] as u8, r.f[3] as u8, &bytes, unique)
     }
 
     fn encode(&mut self, r: &Row) -> String {
-        let lengths: Vec<usize> = part(&self.source, LENGTHS as u32, 4 * r.f[4])
+        let lengths: Vec<u64> = part(&self.source, LENGTHS as u32, 4 * r.f[4])
             .chunks(4)
-            .map(|c| u32::from_le_bytes(c.try_into().expect("four bytes")) as usize)
+            .map(|c| u64::from(u32::from_le_bytes(c.try_into().expect("four bytes"))))
             .collect();
         let zones = part(&self.source, ZONES as u32, r.f[5]);
         let rings = part(&self.source, r.f[2], r.f[3]);
-        answers::encode_nib(&lengths, zones, rings, part_mut(&mut self.target, r.f[0], r.f[1]))
+        self.asks.encode_nib(&lengths, zones, rings, part_mut(&mut self.target, r.f[0], r.f[1]))
+    }
+
+    // The line that a row about a part of the target prints.
+    fn ask(&mut self, r: &Row) -> String {
+        let part = part_mut(&mut self.target, r.f[0], r.f[1]);
+        let track = r.f[2] as u8;
+        let start = u64::from(r.f[3]) << 32 | u64::from(r.f[4]);
+        match r.letter {
+            b's' => self.asks.scan(part, track, start, r.f[5] as usize),
+            b'r' => self.asks.read(part, track, start),
+            b'u' => self.asks.sector(part, track, r.f[3] as u8, true),
+            b'c' => self.asks.sector(part, track, r.f[3] as u8, false),
+            b'o' => self.asks.orbit(part, r.f[2] as u8),
+            b'n' => self.asks.nib(part),
+            b'w' => self.asks.slot(part, u64::from(r.f[2])),
+            b'x' => self.asks.clear(part, r.f[2]),
+            letter => panic!("no row {}", letter as char),
+        }
     }
 
     // The line that a row prints, empty where it prints none.
     fn turn(&mut self, r: &Row) -> String {
-        let track = r.f[2] as u8;
-        let start = u64::from(r.f[3]) << 32 | u64::from(r.f[4]);
         match r.letter {
             b'S' => self.store(r),
             b'F' => self.fill(r),
@@ -141,33 +173,26 @@ impl Machine {
             b'Q' => self.check_byte(r),
             b'T' => drop(self.build(r)),
             b'B' => return self.build(r),
-            b's' => return answers::scan(self.ring(r), track, start, r.f[5] as usize),
-            b'r' => return answers::read(self.ring(r), track, start),
-            b'u' => return answers::sector(self.ring(r), track, r.f[3] as u8, true),
-            b'c' => return answers::sector(self.ring(r), track, r.f[3] as u8, false),
             b'U' => return self.replace(r, true),
             b'K' => return self.replace(r, false),
-            b'o' => return answers::orbit(self.ring(r), r.f[2] as u8),
-            b'n' => return answers::nib(self.ring(r)),
-            b'w' => return answers::slot(self.ring(r), r.f[2] as usize),
             b'e' => return self.encode(r),
-            b'x' => return answers::clear(self.ring(r), r.f[2]),
-            letter => panic!("no row {}", letter as char),
+            _ => return self.ask(r),
         }
         String::new()
     }
 }
 
-pub fn run(input: &[u8]) -> Vec<u8> {
-    let mut machine = Machine { target: vec![0; TARGET], source: vec![0; SOURCE] };
+pub fn run(input: &[u8], asks: &mut dyn Asks) -> Vec<u8> {
+    let mut machine = Machine { target: vec![0; TARGET], source: vec![0; SOURCE], asks };
     let mut out = Vec::new();
     assert!(input.len() % rows::WIDTH == 0, "rows of {} bytes", rows::WIDTH);
     for row in input.chunks(rows::WIDTH) {
-        if row[0] == b'#' {
-            out.extend_from_slice(row);
+        let line = if row[0] == b'#' {
+            machine.asks.heading(std::str::from_utf8(row).expect("text"))
         } else {
-            out.extend_from_slice(machine.turn(&rows::parse(row)).as_bytes());
-        }
+            machine.turn(&rows::parse(row))
+        };
+        out.extend_from_slice(line.as_bytes());
     }
     out
 }

@@ -4,6 +4,7 @@ ghost use mathlib.Core.Path.{_≡_};
 ghost use lib.ListN.{length};
 ghost use Rattle.track.specs.Answers.{built, outAfter as trackAfter};
 ghost use Rattle.scan.specs.Answers.{scanned, rowsAfter, payloadsAfter, trackRead, trackPayloads, trackStatuses};
+ghost use Rattle.rows.specs.Answers.{scannedInto, rowsAfter as recordsAfter};
 ghost use Rattle.sector.specs.Rules.{readUnique, readConsistent};
 ghost use Rattle.sector.specs.Replacing.{answerOf, replacedUnique, replacedConsistent};
 ghost use Rattle.orbit.specs.Orbit.{recovered};
@@ -33,6 +34,7 @@ use nib::Encoded;
 use nib::NibSlot;
 use reclaim::Outcome;
 use scan::Scanned;
+use scan::SectorRecord;
 use scan::TrackRead;
 use sector::Replaced;
 use sector::Sector;
@@ -93,6 +95,24 @@ pub extern "C" fn fielbmaru_scan(
         × (now (payloads .exit) ≡ payloadsAfter (now (ring .entry)) track «start_bit» (now (rows .entry)) (now (payloads .entry))) ⌝ }
 {
     let answer = scan::scan_sector_records(ring, track, start_bit as usize, rows, payloads);
+    tell_scanned(answer, count)
+}
+
+// The same in a lent list of records: `struct fielbmaru_record` in C.
+#[no_mangle]
+pub extern "C" fn fielbmaru_scan_records(
+    ring: &[u8],
+    track: u8,
+    start_bit: u64,
+    records: &mut [SectorRecord],
+    count: &mut u64,
+) -> u64
+    ensures { λ r. ⌜ (r ≡ scannedNumber (scannedInto (now (ring .entry)) track «start_bit» (now (records .entry))))
+        × (now (count .exit) ≡ countAfter (now (count .entry))
+        (scannedInto (now (ring .entry)) track «start_bit» (now (records .entry))))
+        × (now (records .exit) ≡ recordsAfter (now (ring .entry)) track «start_bit» (now (records .entry))) ⌝ }
+{
+    let answer = rows::scan_into_rows(ring, track, start_bit as usize, records);
     tell_scanned(answer, count)
 }
 

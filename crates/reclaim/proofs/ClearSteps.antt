@@ -1,17 +1,24 @@
 -- Clearing an image of any kind as the code does it: a law for each way out.
 -- Assumes nothing.
-use mathlib.Core.Path.{_≡_, ap}
+use mathlib.Core.Path.{_≡_, refl, ap, _∙_}
 use mathlib.Core.Bool.{Bool, true, false, not}
 use mathlib.Core.List.{List}
-use Prim.Native.Nat.{ℕ, zero, suc, _+_, _*_, _≤_}
+use Prim.Native.Nat.{ℕ, zero, suc, _+_, _*_, _-_, _≤_, _<_}
 use native.Mathlib.Omega.{arith}
-use lib.ListN.{getD}
+use lib.ListN.{length, getD, take, drop}
 use Rattle.base.specs.Choice.{pick}
 use Rattle.base.specs.Refusals.{noDirectory, wrongLink}
 use Rattle.base.specs.Bytes.{anyNonzero}
 use Rattle.geometry.specs.Zones.{sectorsOf}
+use Rattle.geometry.specs.D64.{d64Place}
 use Rattle.geometry.proofs.ZoneLaws.{sectors-of}
 use Rattle.sector.specs.declared.Sector.{Sector}
+use Rattle.image.specs.declared.Place.{Place}
+use Rattle.image.specs.D64.{d64Sector}
+use Rattle.image.proofs.D64Reads.{sector-in, sector-out}
+use Rattle.reclaim.specs.declared.ImageKind.{ImageKind}
+use Rattle.reclaim.specs.declared.ImageKind.the-variants.{D64}
+use Rattle.reclaim.specs.Images.{kindAt}
 use Rattle.reclaim.specs.declared.Chain.{Chain}
 use Rattle.reclaim.specs.declared.Counts.{Counts}
 use Rattle.reclaim.specs.declared.Outcome.the-variants.{Cleared}
@@ -37,6 +44,19 @@ unreadable found o = rw o
 
 pub by-bytes : (found : Sector) → found .ok ≡ true → anyNonzero (found .bytes) ≡ hasData found
 by-bytes found o = rw o
+
+-- has a sector of a D64 image data: p is its place
+module _ (l : List ℕ) (t s p : ℕ) (e : p ≡ d64Place t s) where
+  pub block-there : (r : Bool) → p + 256 ≤ length l → r ≡ anyNonzero (take (p + 256 - p) (drop p l)) → r ≡ hasData (d64Sector l t s)
+  block-there r h q = q ∙ ap hasData (sector-in l t s p e (take (p + 256 - p) (drop p l)) h refl)
+
+  pub block-missing : length l < p + 256 → false ≡ hasData (d64Sector l t s)
+  block-missing h = ap hasData (sector-out l t s p e h)
+
+-- has a sector data, where the kind of the image is known to be D64
+pub data-as : (place : Place) (l : List ℕ) (t s : ℕ) (kind : ImageKind) → kind ≡ D64 → (r : Bool) → r ≡ hasData (d64Sector l t s)
+    → r ≡ hasData (kindAt kind place .read l t s)
+data-as place l t s kind e r q = rw e q
 
 -- a sector at its turn
 module _ (kind : Kind) (toClear : ℕ → ℕ → Bool) (t s : ℕ) (l : List ℕ) (c : Counts) where

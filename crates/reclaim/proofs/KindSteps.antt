@@ -1,8 +1,9 @@
 -- A sector of an image of any kind as the code reads it and makes it zeros: a law for each way out.
 -- Assumes nothing.
 use mathlib.Core.Path.{_≡_, refl, sym, ap, _∙_, subst}
+use mathlib.Core.Bool.{Bool}
 use mathlib.Core.List.{List, _++_}
-use Prim.Native.Nat.{ℕ, _+_, _*_, _-_, _≤_}
+use Prim.Native.Nat.{ℕ, zero, suc, _+_, _*_, _-_, _≤_}
 use native.Mathlib.Omega.{arith}
 use lib.ListN.{length, getD, take, drop, replicate, length-take, length-drop}
 use borrow.Author.Tests.{eq-eqb, ne-eqb}
@@ -10,7 +11,7 @@ use Rattle.base.proofs.Parts.{home}
 use Rattle.geometry.specs.D64.{d64Place}
 use Rattle.scan.specs.declared.SectorRecord.{SectorRecord}
 use Rattle.sector.specs.declared.Sector.{Sector}
-use Rattle.sector.specs.Rules.{readBy}
+use Rattle.sector.specs.Rules.{unique, consistent, readBy}
 use Rattle.sector.specs.Replacing.{replacedBy}
 use Rattle.image.specs.declared.Place.{Place}
 use Rattle.image.specs.declared.Place.the-variants.{At, Absent}
@@ -19,8 +20,10 @@ use Rattle.image.specs.Rings.{startOf, lengthOf, ringPlace}
 use Rattle.image.specs.D64.{d64Zeroed}
 use Rattle.image.proofs.TableLaws.{track-inside}
 use Rattle.reclaim.specs.declared.ImageKind.{ImageKind}
-use Rattle.reclaim.specs.Images.{readAt, zeroedAt, ringsKind, kindOf}
-use Rattle.reclaim.specs.Contracts.{Complete}
+use Rattle.reclaim.specs.declared.ImageKind.the-variants.{D64, G64, Nib}
+use Rattle.reclaim.specs.Clearing.{Work, cleared, clearSector, sectorsDone}
+use Rattle.reclaim.specs.Images.{readAt, zeroedAt, d64Kind, ringsKind, kindOf, kindAt}
+use Rattle.reclaim.specs.Contracts.{Complete, InPlace}
 
 -- the ring of a track by the table
 module _ (table : Table) (t : ℕ) where
@@ -33,13 +36,19 @@ module _ (table : Table) (t : ℕ) where
   unfolding ringPlace
   ring-here e = rw (ne-eqb _ 0 e)
 
-  -- what is said of a rule on that ring is said of the kind
-  module _ (rule : List SectorRecord → Sector) (p : Place) (e : p ≡ ringPlace table t) (l : List ℕ) (s : ℕ) where
-    pub read-ring : (r : Sector) → r ≡ readAt rule p l t s → r ≡ ringsKind rule table .read l t s
-    read-ring r q = q ∙ ap (λ (x : Place). readAt rule x l t s) e
+  -- the kind on that track is the kind by the table
+  pub read-there : (kind : ImageKind) (l : List ℕ) (s : ℕ) → kindAt kind (ringPlace table t) .read l t s ≡ kindOf kind table .read l t s
+  read-there D64 l s = refl
+  read-there G64 l s = refl
+  read-there Nib l s = refl
 
-    pub zeroed-ring : (m : List ℕ) → m ≡ zeroedAt rule p t s l → m ≡ ringsKind rule table .zeroed t s l
-    zeroed-ring m q = q ∙ ap (λ (x : Place). zeroedAt rule x t s l) e
+  pub sectors-there : (kind : ImageKind) (free : ℕ → ℕ → Bool) (n : ℕ) (w : Work)
+      → sectorsDone (kindAt kind (ringPlace table t)) free t n w ≡ sectorsDone (kindOf kind table) free t n w
+  unfolding sectorsDone clearSector cleared
+  sectors-there kind free zero w = refl
+  sectors-there D64 free (suc n) w = ap (clearSector d64Kind free t n) (sectors-there D64 free n w)
+  sectors-there G64 free (suc n) w = ap (clearSector (ringsKind unique table) free t n) (sectors-there G64 free n w)
+  sectors-there Nib free (suc n) w = ap (clearSector (ringsKind consistent table) free t n) (sectors-there Nib free n w)
 
   -- it lies in the image
   pub ring-inside : (kind : ImageKind) (size : ℕ) → Complete kind table size → (p : Place) → p ≡ ringPlace table t
@@ -47,12 +56,15 @@ module _ (table : Table) (t : ℕ) where
   ring-inside kind size all p e =
       subst (λ (q : Place). startOf q + lengthOf q ≤ size) (sym e) (track-inside size table t (record { each = all .rings }))
 
+  pub in-place : (kind : ImageKind) (size : ℕ) → Complete kind table size → (p : Place) → p ≡ ringPlace table t → InPlace kind p size
+  in-place kind size all p e = record { sectors = all .sectors; ring = ring-inside kind size all p e }
+
 -- an image whose kind is known
-module _ (table : Table) (l : List ℕ) (t s : ℕ) (kind known : ImageKind) (e : kind ≡ known) where
-  pub read-as : (r : Sector) → r ≡ kindOf known table .read l t s → r ≡ kindOf kind table .read l t s
+module _ (place : Place) (l : List ℕ) (t s : ℕ) (kind known : ImageKind) (e : kind ≡ known) where
+  pub read-as : (r : Sector) → r ≡ kindAt known place .read l t s → r ≡ kindAt kind place .read l t s
   read-as r q = rw e q
 
-  pub zeroed-as : (m : List ℕ) → m ≡ kindOf known table .zeroed t s l → m ≡ kindOf kind table .zeroed t s l
+  pub zeroed-as : (m : List ℕ) → m ≡ kindAt known place .zeroed t s l → m ≡ kindAt kind place .zeroed t s l
   zeroed-as m q = rw e q
 
 -- a sector of the ring at a place; r is what reading the lent part gave, ys what the part came back with

@@ -3,16 +3,17 @@ ghost use mathlib.Core.Path.{_≡_};
 ghost use Prim.Native.Nat.{_+_, _*_, _-_, _<_, _≤_};
 ghost use lib.ListN.{length};
 ghost use Rattle.geometry.specs.Zones.{sectorsOf};
-ghost use Rattle.image.specs.D64.{OnTracks};
+ghost use Rattle.image.specs.D64.{OnTracks, d64Sector};
 ghost use Rattle.reclaim.specs.Disk.{entryFree, bamFree, disk1541};
 ghost use Rattle.reclaim.specs.Clearing.{isFree, hasData, clearSector, sectorsDone, tracksDone, untouched, clearing};
-ghost use Rattle.reclaim.specs.Images.{kindOf};
-ghost use Rattle.reclaim.specs.Contracts.{work, answer, Complete};
+ghost use Rattle.reclaim.specs.Images.{kindOf, kindAt};
+ghost use Rattle.reclaim.specs.Contracts.{work, answer, Complete, InPlace};
 use super::Counts;
 use super::ImageKind;
 use super::Outcome;
 use super::directory;
 use super::kind;
+use image::Place;
 use image::Table;
 use sector::Sector;
 
@@ -56,11 +57,37 @@ fn has_data(found: Sector) -> bool
     base::any_nonzero(&bytes)
 }
 
+// The same of a sector of a D64 image.
+fn block_has_data(image: &[u8], track: u8, sector: u8) -> bool
+    ensures { λ r. ⌜ r ≡ hasData (d64Sector (now (image .entry)) track sector) ⌝ }
+{
+    let at = geometry::d64_place(track, sector);
+    let end = at + 256;
+    if end <= image.len() {
+        // A block of known length is tested much faster.
+        let block = base::copy_block(&image[at..end]);
+        return base::any_nonzero(&block);
+    }
+    false
+}
+
+// The same of a sector of any image, where the ring of its track is at a place.
+fn has_data_here(image: &[u8], kind: ImageKind, place: Place, track: u8, sector: u8) -> bool
+    requires { ⌜ InPlace kind place (length (now image)) ⌝ }
+    ensures { λ r. ⌜ r ≡ hasData (kindAt kind place .read (now (image .entry)) track sector) ⌝ }
+{
+    match kind {
+        ImageKind::D64 => block_has_data(image, track, sector),
+        ImageKind::G64 => has_data(kind::read_here(image, kind, place, track, sector)),
+        ImageKind::Nib => has_data(kind::read_here(image, kind, place, track, sector)),
+    }
+}
+
 // A sector at its turn.
 fn clear_sector(
     image: &mut [u8],
     kind: ImageKind,
-    table: Table,
+    place: Place,
     bam: &[u8; 256],
     marks: &[bool; 882],
     track: u8,
@@ -68,23 +95,22 @@ fn clear_sector(
     counts: Counts,
 ) -> Counts
     requires { ⌜ OnTracks 35 track sector ⌝ }
-    requires { ⌜ Complete kind table (length (now image)) ⌝ }
+    requires { ⌜ InPlace kind place (length (now image)) ⌝ }
     requires { ⌜ (counts .free < 10000) × (counts .changed < 10000) ⌝ }
     ensures { λ r. ⌜ work (now (image .exit)) r
-        ≡ clearSector (kindOf kind table) (isFree (bamFree (now (bam .entry))) (now (marks .entry))) track sector
+        ≡ clearSector (kindAt kind place) (isFree (bamFree (now (bam .entry))) (now (marks .entry))) track sector
         (work (now (image .entry)) counts) ⌝ }
 {
     if !to_clear(bam, marks, track, sector) {
         return counts;
     }
-    let found = kind::read_sector(image, kind, table, track, sector);
-    if !has_data(found) {
+    if !has_data_here(image, kind, place, track, sector) {
         return Counts {
             free: counts.free + 1,
             changed: counts.changed,
         };
     }
-    kind::zero_sector(image, kind, table, track, sector);
+    kind::zero_here(image, kind, place, track, sector);
     Counts {
         free: counts.free + 1,
         changed: counts.changed + 1,
@@ -108,10 +134,11 @@ fn clear_track(
         (work (now (image .entry)) start) ⌝ }
 {
     let n = geometry::sectors_per_track(track);
+    let place = kind::ring_place(table, track);
     let mut counts = start;
     let mut sector: u8 = 0;
     while sector < n {
-        counts = clear_sector(image, kind, table, bam, marks, track, sector, counts);
+        counts = clear_sector(image, kind, place, bam, marks, track, sector, counts);
         sector += 1;
     }
     counts

@@ -7,15 +7,15 @@ ghost use Rattle.geometry.specs.D64.{d64Place};
 ghost use Rattle.sector.specs.Rules.{refused, unique, consistent};
 ghost use Rattle.image.specs.Rings.{startOf, lengthOf, ringPlace};
 ghost use Rattle.image.specs.D64.{d64Zeroed, OnTracks};
-ghost use Rattle.reclaim.specs.Images.{readAt, zeroedAt, kindOf};
-ghost use Rattle.reclaim.specs.Contracts.{Complete};
+ghost use Rattle.reclaim.specs.Images.{readAt, zeroedAt, kindOf, kindAt};
+ghost use Rattle.reclaim.specs.Contracts.{Complete, InPlace};
 use super::ImageKind;
 use image::Place;
 use image::Table;
 use sector::Sector;
 
 // Where the ring of a track lies: half-track 2(track - 1), absent where its length is 0.
-fn ring_place(table: Table, track: u8) -> Place
+pub fn ring_place(table: Table, track: u8) -> Place
     requires { ⌜ (0 < track) × (track ≤ 42) ⌝ }
     ensures { λ r. ⌜ r ≡ ringPlace table track ⌝ }
 {
@@ -68,17 +68,25 @@ fn read_consistent(image: &[u8], place: Place, track: u8, sector: u8) -> Sector
     }
 }
 
-// A sector of an image, by the rule of its kind.
+// A sector of an image, by the rule of its kind, where the ring of its track is at a place.
+pub fn read_here(image: &[u8], kind: ImageKind, place: Place, track: u8, sector: u8) -> Sector
+    requires { ⌜ InPlace kind place (length (now image)) ⌝ }
+    ensures { λ r. ⌜ r ≡ kindAt kind place .read (now (image .entry)) track sector ⌝ }
+{
+    match kind {
+        ImageKind::D64 => image::d64_sector(image, track, sector),
+        ImageKind::G64 => read_unique(image, place, track, sector),
+        ImageKind::Nib => read_consistent(image, place, track, sector),
+    }
+}
+
+// The same by the table of its rings.
 pub fn read_sector(image: &[u8], kind: ImageKind, table: Table, track: u8, sector: u8) -> Sector
     requires { ⌜ (0 < track) × (track ≤ 42) ⌝ }
     requires { ⌜ Complete kind table (length (now image)) ⌝ }
     ensures { λ r. ⌜ r ≡ kindOf kind table .read (now (image .entry)) track sector ⌝ }
 {
-    match kind {
-        ImageKind::D64 => image::d64_sector(image, track, sector),
-        ImageKind::G64 => read_unique(image, ring_place(table, track), track, sector),
-        ImageKind::Nib => read_consistent(image, ring_place(table, track), track, sector),
-    }
+    read_here(image, kind, ring_place(table, track), track, sector)
 }
 
 fn fill_zero(part: &mut [u8])
@@ -132,15 +140,15 @@ fn zero_consistent(image: &mut [u8], place: Place, track: u8, sector: u8)
     }
 }
 
-// Makes a sector of an image zeros, by the rule of its kind.
-pub fn zero_sector(image: &mut [u8], kind: ImageKind, table: Table, track: u8, sector: u8)
+// Makes a sector of an image zeros, by the rule of its kind, where the ring of its track is at a place.
+pub fn zero_here(image: &mut [u8], kind: ImageKind, place: Place, track: u8, sector: u8)
     requires { ⌜ OnTracks 35 track sector ⌝ }
-    requires { ⌜ Complete kind table (length (now image)) ⌝ }
-    ensures { λ r. ⌜ now (image .exit) ≡ kindOf kind table .zeroed track sector (now (image .entry)) ⌝ }
+    requires { ⌜ InPlace kind place (length (now image)) ⌝ }
+    ensures { λ r. ⌜ now (image .exit) ≡ kindAt kind place .zeroed track sector (now (image .entry)) ⌝ }
 {
     match kind {
         ImageKind::D64 => zero_block(image, track, sector),
-        ImageKind::G64 => zero_unique(image, ring_place(table, track), track, sector),
-        ImageKind::Nib => zero_consistent(image, ring_place(table, track), track, sector),
+        ImageKind::G64 => zero_unique(image, place, track, sector),
+        ImageKind::Nib => zero_consistent(image, place, track, sector),
     }
 }

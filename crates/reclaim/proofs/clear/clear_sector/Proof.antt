@@ -1,8 +1,8 @@
 use Rattle.reclaim.proofs.ClearSteps.{turn-kept, turn-same, turn-changed}
 use Rattle.reclaim.specs.Clearing.{isFree}
 use Rattle.reclaim.specs.Disk.{bamFree}
-use Rattle.reclaim.specs.Images.{kindOf}
-use mathlib.Core.Path.{sym, _∙_}
+use Rattle.reclaim.specs.Images.{kindAt}
+use mathlib.Core.Path.{refl, sym, _∙_}
 use borrow.Author.Tests.{not-true, not-false}
 use borrow.Author.Needs.{needs}
 use Rattle.reclaim.proofs.clear.clear_sector.Statement.{statement}
@@ -14,18 +14,15 @@ to-clear-requires c κs = search needs
 returns : tie.Need-returns
 returns c =
     let a = c .before .before .before .args in
-    turn-kept (kindOf (a .kind) (a .table)) (isFree (bamFree (a .bam .now)) (a .marks .now)) (a .track) (a .sector) (a .image .now)
+    turn-kept (kindAt (a .kind) (a .place)) (isFree (bamFree (a .bam .now)) (a .marks .now)) (a .track) (a .sector) (a .image .now)
     (a .counts)
     (sym (c .before .to-clear .ensures) ∙ not-true _ (c .if1 .taken))
 
-read-sector-requires : tie.Need-read-sector-requires
-read-sector-requires c κs = search needs
+has-data-here-requires : tie.Need-has-data-here-requires
+has-data-here-requires c κs = search needs
 
-has-data-requires : tie.Need-has-data-requires
-has-data-requires c κs = search needs
-
-add-t14 : tie.Need-add-t14
-add-t14 c = search needs
+add-t13 : tie.Need-add-t13
+add-t13 c = search needs
 
 same-length : tie.Need-same-length
 same-length c = search needs
@@ -33,22 +30,22 @@ same-length c = search needs
 returns-2 : tie.Need-returns-2
 returns-2 c =
     let h = c .before .before in
-    let r = h .before in
-    let e = r .before .before in
+    let e = h .before .before in
     let a = e .before .before .before .args in
-    turn-same (kindOf (a .kind) (a .table)) (isFree (bamFree (a .bam .now)) (a .marks .now)) (a .track) (a .sector) (a .image .now)
+    turn-same (kindAt (a .kind) (a .place)) (isFree (bamFree (a .bam .now)) (a .marks .now)) (a .track) (a .sector) (a .image .now)
     (a .counts)
-    (sym (e .before .to-clear .ensures) ∙ not-false _ (e .if1 .left)) (r .read-sector .result) (r .read-sector .ensures)
-    (sym (h .has-data .ensures) ∙ not-true _ (c .before .if2 .taken))
+    (sym (e .before .to-clear .ensures) ∙ not-false _ (e .if1 .left))
+    (kindAt (a .kind) (a .place) .read (a .image .now) (a .track) (a .sector)) refl
+    (sym (h .has-data-here .ensures) ∙ not-true _ (c .before .if2 .taken))
 
-zero-sector-requires : tie.Need-zero-sector-requires
-zero-sector-requires c κs = search needs
+zero-here-requires : tie.Need-zero-here-requires
+zero-here-requires c κs = search needs
+
+add-t17 : tie.Need-add-t17
+add-t17 c = search needs
 
 add-t18 : tie.Need-add-t18
 add-t18 c = search needs
-
-add-t19 : tie.Need-add-t19
-add-t19 c = search needs
 
 same-length-2 : tie.Need-same-length-2
 same-length-2 c = search needs
@@ -57,13 +54,13 @@ returns-3 : tie.Need-returns-3
 returns-3 c =
     let z = c .before .before .before .before in
     let h = z .before .before .before in
-    let r = h .before in
-    let e = r .before .before in
+    let e = h .before .before in
     let a = e .before .before .before .args in
-    turn-changed (kindOf (a .kind) (a .table)) (isFree (bamFree (a .bam .now)) (a .marks .now)) (a .track) (a .sector) (a .image .now)
+    turn-changed (kindAt (a .kind) (a .place)) (isFree (bamFree (a .bam .now)) (a .marks .now)) (a .track) (a .sector) (a .image .now)
     (a .counts)
-    (sym (e .before .to-clear .ensures) ∙ not-false _ (e .if1 .left)) (r .read-sector .result) (r .read-sector .ensures)
-    (sym (h .has-data .ensures) ∙ not-false _ (z .before .before .if2 .left)) (z .zero-sector .last .0) (z .zero-sector .ensures)
+    (sym (e .before .to-clear .ensures) ∙ not-false _ (e .if1 .left))
+    (kindAt (a .kind) (a .place) .read (a .image .now) (a .track) (a .sector)) refl
+    (sym (h .has-data-here .ensures) ∙ not-false _ (z .before .before .if2 .left)) (z .zero-here .last .0) (z .zero-here .ensures)
 
 pub clear-sector-spec : {M : Type 1} → statement M
 clear-sector-spec =
@@ -71,13 +68,12 @@ clear-sector-spec =
     (tie.spec
     to-clear-requires
     returns
-    read-sector-requires
-    has-data-requires
-    add-t14
+    has-data-here-requires
+    add-t13
     same-length
     returns-2
-    zero-sector-requires
+    zero-here-requires
+    add-t17
     add-t18
-    add-t19
     same-length-2
     returns-3)

@@ -1,12 +1,12 @@
-use Rattle.reclaim.proofs.KindSteps.{ring-inside, zeroed-ring, zeroed-as}
+use Rattle.reclaim.proofs.KindSteps.{zeroed-as}
 use Rattle.geometry.proofs.D64Laws.{offset-in}
 use Rattle.reclaim.specs.declared.ImageKind.the-variants.{D64, G64, Nib}
 use Rattle.sector.specs.Rules.{unique, consistent}
 use lib.ListN.{length}
 use native.Mathlib.Omega.{arith}
 use borrow.Author.Needs.{needs}
-use Rattle.reclaim.proofs.kind.zero_sector.Statement.{statement}
-use Rattle.reclaim.proofs.kind.zero_sector.Tie as tie
+use Rattle.reclaim.proofs.kind.zero_here.Statement.{statement}
+use Rattle.reclaim.proofs.kind.zero_here.Tie as tie
 
 enum-told : tie.Need-enum-told
 enum-told c = search needs
@@ -24,26 +24,18 @@ zero-block-requires c κs =
 enum-told-2 : tie.Need-enum-told-2
 enum-told-2 c = search needs
 
-ring-place-requires : tie.Need-ring-place-requires
-ring-place-requires c κs = search needs
-
 zero-unique-requires : tie.Need-zero-unique-requires
 zero-unique-requires c κs =
-    let s = c .before .before .before .before .before in
-    ring-inside (s .args .table) (s .args .track) (s .args .kind) (length (s .args .image .now)) (s .pre .1) (c .ring-place .result)
-    (c .ring-place .ensures)
+    let s = c .before .before .before .before in
+    s .pre .1 .ring
 
 enum-told-3 : tie.Need-enum-told-3
 enum-told-3 c = search needs
 
-ring-place-requires-2 : tie.Need-ring-place-requires-2
-ring-place-requires-2 c κs = search needs
-
 zero-consistent-requires : tie.Need-zero-consistent-requires
 zero-consistent-requires c κs =
-    let s = c .before .before .before .before .before in
-    ring-inside (s .args .table) (s .args .track) (s .args .kind) (length (s .args .image .now)) (s .pre .1) (c .ring-place2 .result)
-    (c .ring-place2 .ensures)
+    let s = c .before .before .before .before in
+    s .pre .1 .ring
 
 same-length : tie.Need-same-length
 same-length c = search needs
@@ -53,7 +45,7 @@ returns c =
     let z = c .before .before in
     let e = z .before .before in
     let a = e .before .before .before .args in
-    zeroed-as (a .table) (a .image .now) (a .track) (a .sector) (a .kind) D64 (e .enum-told .given .1) (z .zero-block .last .0)
+    zeroed-as (a .place) (a .image .now) (a .track) (a .sector) (a .kind) D64 (e .enum-told .given .1) (z .zero-block .last .0)
     (z .zero-block .ensures)
 
 same-length-2 : tie.Need-same-length-2
@@ -62,12 +54,10 @@ same-length-2 c = search needs
 returns-2 : tie.Need-returns-2
 returns-2 c =
     let z = c .before .before in
-    let r = z .before in
-    let e = r .before .before in
+    let e = z .before .before in
     let a = e .before .before .before .args in
-    zeroed-as (a .table) (a .image .now) (a .track) (a .sector) (a .kind) G64 (e .enum-told2 .given .1) (z .zero-unique .last .0)
-    (zeroed-ring (a .table) (a .track) unique (r .ring-place .result) (r .ring-place .ensures) (a .image .now) (a .sector) _
-    (z .zero-unique .ensures))
+    zeroed-as (a .place) (a .image .now) (a .track) (a .sector) (a .kind) G64 (e .enum-told2 .given .1) (z .zero-unique .last .0)
+    (z .zero-unique .ensures)
 
 same-length-3 : tie.Need-same-length-3
 same-length-3 c = search needs
@@ -75,24 +65,20 @@ same-length-3 c = search needs
 returns-3 : tie.Need-returns-3
 returns-3 c =
     let z = c .before .before in
-    let r = z .before in
-    let e = r .before .before in
+    let e = z .before .before in
     let a = e .before .before .before .args in
-    zeroed-as (a .table) (a .image .now) (a .track) (a .sector) (a .kind) Nib (e .enum-told3 .given .1) (z .zero-consistent .last .0)
-    (zeroed-ring (a .table) (a .track) consistent (r .ring-place2 .result) (r .ring-place2 .ensures) (a .image .now) (a .sector) _
-    (z .zero-consistent .ensures))
+    zeroed-as (a .place) (a .image .now) (a .track) (a .sector) (a .kind) Nib (e .enum-told3 .given .1) (z .zero-consistent .last .0)
+    (z .zero-consistent .ensures)
 
-pub zero-sector-spec : {M : Type 1} → statement M
-zero-sector-spec =
+pub zero-here-spec : {M : Type 1} → statement M
+zero-here-spec =
     tie.close
     (tie.spec
     enum-told
     zero-block-requires
     enum-told-2
-    ring-place-requires
     zero-unique-requires
     enum-told-3
-    ring-place-requires-2
     zero-consistent-requires
     same-length
     returns

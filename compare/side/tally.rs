@@ -1,0 +1,128 @@
+// What was compared, function by function.
+use std::fs;
+
+pub const NAMES: [&str; 13] = [
+    "build_track",
+    "scan",
+    "decode_track",
+    "read_unique",
+    "read_consistent",
+    "replace_unique",
+    "replace_consistent",
+    "orbit",
+    "nib_slot",
+    "encode_nib",
+    "clear_d64",
+    "clear_g64",
+    "clear_nib",
+];
+
+// What each of them hands out.
+const THINGS: [&str; 13] = [
+    "tracks",
+    "records",
+    "sectors found",
+    "sectors",
+    "sectors",
+    "sectors",
+    "sectors",
+    "spans",
+    "rings",
+    "windows",
+    "sectors cleared",
+    "sectors cleared",
+    "sectors cleared",
+];
+
+// The folder that the first differing input of each function is written to.
+const FOLDER: &str = "target/beside";
+
+#[derive(Clone, Copy, PartialEq)]
+pub enum Function {
+    Build,
+    Scan,
+    Read,
+    ReadUnique,
+    ReadConsistent,
+    ReplaceUnique,
+    ReplaceConsistent,
+    Orbit,
+    Slot,
+    Encode,
+    ClearD64,
+    ClearG64,
+    ClearNib,
+}
+
+// What came out on one side and on the other.
+#[derive(Clone, Default)]
+struct Counts {
+    compared: u64,
+    // how many answers had each number; 0 is done
+    numbers: [u64; 14],
+    // of those, how many have a number, or a file, that is document 01's alone, as docs/DIFFERENCES.md names them
+    alone: u64,
+    // records, sectors, bytes or whatever else the function hands out
+    things: u64,
+    differ: u64,
+    first: String,
+}
+
+pub struct Tally {
+    counts: Vec<Counts>,
+}
+
+impl Tally {
+    pub fn new() -> Tally {
+        Tally { counts: vec![Counts::default(); NAMES.len()] }
+    }
+
+    pub fn count(&mut self, function: Function, number: u64, alone: bool, things: usize) {
+        let counts = &mut self.counts[function as usize];
+        counts.compared += 1;
+        counts.numbers[number as usize] += 1;
+        counts.alone += u64::from(alone);
+        counts.things += things as u64;
+    }
+
+    // The bytes of the first differing input are kept in a file.
+    pub fn differs(&mut self, function: Function, words: String, bytes: &[u8]) {
+        let counts = &mut self.counts[function as usize];
+        counts.differ += 1;
+        if counts.differ > 1 {
+            return;
+        }
+        let file = format!("{FOLDER}/{}.bin", NAMES[function as usize]);
+        let kept = fs::create_dir_all(FOLDER).and_then(|()| fs::write(&file, bytes));
+        counts.first = match kept {
+            Ok(()) => format!("{words}; its bytes are in {file}"),
+            Err(_) => words,
+        };
+    }
+
+    // A line for each function.
+    pub fn print(&self) {
+        for ((name, things), c) in NAMES.iter().zip(THINGS).zip(&self.counts) {
+            let refused: Vec<String> =
+                (1..14).filter(|&k| c.numbers[k] > 0).map(|k| format!("{k}: {}", c.numbers[k])).collect();
+            let refused = if refused.is_empty() { "-".to_string() } else { refused.join(", ") };
+            let done = format!("{} done, {} {things}", c.numbers[0], c.things);
+            println!(
+                "{name}: {} inputs compared, {} differ; {done}; refused {refused}; by document 01 alone {}",
+                c.compared, c.differ, c.alone
+            );
+            if c.differ > 0 {
+                println!("    first: {}", c.first);
+            }
+        }
+        println!("in all {} inputs compared, {} differ", self.total(|c| c.compared), self.differing());
+    }
+
+    fn total(&self, what: impl Fn(&Counts) -> u64) -> u64 {
+        self.counts.iter().map(what).sum()
+    }
+
+    pub fn differing(&self) -> u64 {
+        self.total(|c| c.differ)
+    }
+}
