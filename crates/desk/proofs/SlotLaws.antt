@@ -1,9 +1,9 @@
 -- The line of a slot as it is put, text by text; and where a slot's window lies.
 -- Assumes nothing.
 use mathlib.Core.Path.{_≡_, refl, ap, sym, _∙_}
-use mathlib.Core.Bool.{Bool, true, false, _&&_, not}
+use mathlib.Core.Bool.{Bool, true, false}
 use mathlib.Core.List.{List, [], _∷_, _++_}
-use Prim.Native.Nat.{ℕ, _+_, _-_, _*_, _/_, _%_, _≤_, _<_}
+use Prim.Native.Nat.{ℕ, _+_, _-_, _*_, _/_, _%_, _≤_}
 use native.Mathlib.Omega.{arith}
 use native.Mathlib.Nat.{sub-zero}
 use lib.Dec.{ltb}
@@ -12,9 +12,9 @@ use Rattle.base.specs.Choice.{pick}
 use Rattle.base.specs.Refusals.{wrongEntries}
 use Rattle.base.proofs.Tests.{eqb-yes, eqb-no, le-of}
 use Rattle.lines.specs.Line.{numberText}
-use Rattle.pages.specs.Page.{ascii, Text, together, Page, writes}
+use Rattle.pages.specs.Page.{ascii, together, Page, writes}
 use Rattle.pages.proofs.PageLaws.{nothing, then}
-use Rattle.orbit.specs.Orbit.{agreements, observations, chosen}
+use Rattle.orbit.specs.Orbit.{agreements, chosen}
 use Rattle.orbit.proofs.Spans.{limits}
 use Rattle.orbit.proofs.Best.{chosen-within}
 use Rattle.nib.specs.declared.Pairs.{Pairs}
@@ -22,10 +22,10 @@ use Rattle.nib.specs.declared.Pairs.the-variants.{Count, Refused as NoCatalogue
 use Rattle.nib.specs.declared.Entry.{Entry}
 use Rattle.nib.specs.declared.Entry.the-variants.{At, Absent, Refused as NoEntry}
 use Rattle.nib.specs.declared.NibSlot.{NibSlot}
-use Rattle.nib.specs.declared.NibSlot.the-variants.{Ring, Empty, Refused}
+use Rattle.nib.specs.declared.NibSlot.the-variants.{Ring}
 use Rattle.nib.specs.Catalogue.{catalogueOf, placeOf, zoneAt, windowAt}
 use Rattle.nib.specs.Slots.{entryIn, entryOf, slotBy, slotOf}
-use Rattle.nib.proofs.Slotting.{held, entry-above}
+use Rattle.nib.proofs.Slotting.{held}
 use Rattle.kinds.specs.Statuses.{ringStatuses}
 use Rattle.desk.specs.Lines.{tally}
 use Rattle.desk.specs.Slots.{isWhole, trackOf, nameText, spanText, lostAt, lostText, foundText, sectorsText, slotLine}

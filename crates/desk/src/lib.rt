@@ -103,7 +103,8 @@ fn put_statuses(page: &mut [u8], at: usize, track: u8, statuses: &[u8]) -> usize
 }
 
 fn put_if_shown(page: &mut [u8], at: usize, track: u8, statuses: &[u8]) -> usize
-    ensures { λ r. ⌜ sheet (now (page .exit)) r ≡ writes (sheet (now (page .entry)) at) (ifShown trackLine track (now (statuses .entry))) ⌝ }
+    ensures { λ r. ⌜ sheet (now (page .exit)) r ≡ writes (sheet (now (page .entry)) at)
+        (ifShown trackLine track (now (statuses .entry))) ⌝ }
 {
     if kinds::is_shown(track, statuses) {
         return put_statuses(page, at, track, statuses);
@@ -122,7 +123,8 @@ pub fn put_track(page: &mut [u8], at: usize, image: &[u8], track: u8) -> usize
 }
 
 fn put_arcs_if_shown(page: &mut [u8], at: usize, track: u8, statuses: &[u8]) -> usize
-    ensures { λ r. ⌜ sheet (now (page .exit)) r ≡ writes (sheet (now (page .entry)) at) (ifShown svgTrack track (now (statuses .entry))) ⌝ }
+    ensures { λ r. ⌜ sheet (now (page .exit)) r ≡ writes (sheet (now (page .entry)) at)
+        (ifShown svgTrack track (now (statuses .entry))) ⌝ }
 {
     if kinds::is_shown(track, statuses) {
         return picture::put_svg_track(page, at, statuses, track);

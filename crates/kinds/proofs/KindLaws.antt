@@ -14,7 +14,7 @@ use Rattle.geometry.specs.D64.{tracksOf}
 use Rattle.nib.specs.Catalogue.{isNib}
 use Rattle.image.specs.G64.{isG64}
 use Rattle.kinds.specs.declared.Kind.{Kind}
-use Rattle.kinds.specs.declared.Kind.the-variants.{D64, G64, Nib, Unknown}
+use Rattle.kinds.specs.declared.Kind.the-variants.{D64, G64, Nib}
 use Rattle.kinds.specs.Kinds.{bySize, kindOf, faultBy, faultOf, clearedAs, cleared}
 
 module _ (image : List ℕ) where

@@ -1,6 +1,6 @@
 -- The statuses of a track: each way that the code goes.
 -- Assumes nothing.
-use mathlib.Core.Path.{_≡_, refl, ap, sym, _∙_}
+use mathlib.Core.Path.{_≡_, ap, sym, _∙_}
 use mathlib.Core.Bool.{Bool, true}
 use mathlib.Core.List.{List, [], _++_, append-nil}
 use Prim.Native.Nat.{ℕ, _+_, _-_, _*_, _/_, _≤_, _<_}
@@ -10,7 +10,6 @@ use native.Mathlib.Decide.{decLt}
 use lib.Dec.{leb}
 use lib.ListN.{length, getD, take, drop, replicate, length-replicate, List·getD-eq-default}
 use lib.Seq.{drop-length}
-use Rattle.base.specs.Choice.{pick}
 use Rattle.base.specs.Bytes.{anyNonzero}
 use Rattle.base.specs.Lists.{tab}
 use Rattle.base.specs.Refusals.{noRoom}
@@ -159,10 +158,10 @@ module _ (image : List ℕ) (track : ℕ) where
 none-count : (track : ℕ) → length (noTrack track) ≡ sectorsOf track
 none-count track = length-replicate (sectorsOf track) 0
 
-abbrev Counts : ℕ → List ℕ → Type 0
+abbrev pub Counts : ℕ → List ℕ → Type 0
 Counts track l = length l ≡ sectorsOf track
 
-ring-count : (ring : List ℕ) (track : ℕ) → Counts track (ringStatuses ring track)
+pub ring-count : (ring : List ℕ) (track : ℕ) → Counts track (ringStatuses ring track)
 unfolding ringStatuses
 ring-count ring track =
     pick-ind (Counts track) (within 1 65535 (length ring)) (readStatuses ring track 0) (noTrack track)

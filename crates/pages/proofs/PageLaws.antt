@@ -1,16 +1,18 @@
 -- Pages by their pieces.
 --     one-piece, one-more      a piece put; a text put, and then another
 --     long-enough              on a page that is long enough the pieces stand one after the other
+--     printed                  the bytes of such a page up to the place answered are the text's
+--     append-long, together-long   how long a text is, by its parts
 -- Assumes nothing.
 use mathlib.Core.Path.{_≡_, refl, sym, ap, ap₂, _∙_}
 use mathlib.Core.List.{List, [], _∷_, _++_}
-use Prim.Native.Nat.{ℕ, suc, _+_, _≤_}
+use Prim.Native.Nat.{ℕ, zero, suc, _+_, _*_, _≤_, _<_}
 use native.Mathlib.Numerals.{add-one}
 use native.Mathlib.Nat.{add-zero, add-assoc}
 use native.Mathlib.Omega.{arith}
-use lib.ListN.{length, length-append}
-use lib.Seq.{sets, length-sets}
-use Rattle.base.proofs.InRow.{sets-more}
+use lib.ListN.{length, take, drop, length-append}
+use lib.Seq.{sets, length-sets, take-at}
+use Rattle.base.proofs.InRow.{sets-more, sets-front}
 use Rattle.base.proofs.Tests.{leb-yes}
 use Rattle.lines.specs.Line.{lineWith, placeAfter}
 use Rattle.pages.specs.Page.{Text, allOf, together, Page, sheet, withPiece, writes}
@@ -66,3 +68,25 @@ long-enough (piece ∷ text) bytes at h =
     ∙ long-enough text (sets bytes at piece) (at + length piece) (omega (arith, length-sets bytes at piece))
     ∙ ap₂ sheet (sets-more piece (allOf text) bytes at (length piece) refl)
     (add-assoc at (length piece) (length (allOf text)) ∙ ap (λ (n : ℕ). at + n) (sym (length-append piece (allOf text))))
+
+pub printed : (text : Text) (bytes after : List ℕ) (r : ℕ) → length (allOf text) ≤ length bytes
+    → sheet after r ≡ writes (sheet bytes 0) text → take r after ≡ allOf text
+printed text bytes after r h e =
+    let w : sheet after r ≡ sheet (sets bytes 0 (allOf text)) (0 + length (allOf text)) = e ∙ long-enough text bytes 0 (omega arith) in
+    let n : r ≡ 0 + length (allOf text) = ap (λ (p : Page). p .place) w in
+    let m : length (allOf text) ≡ r = omega arith in
+    ap (λ (p : Page). take r (p .bytes)) w ∙ ap (take r) (sets-front (allOf text) bytes r m (omega arith))
+    ∙ take-at (allOf text) (drop r bytes) r m
+
+-- ---- how long a text is
+pub append-long : (s t : Text) → length (allOf (s ++ t)) ≡ length (allOf s) + length (allOf t)
+unfolding allOf
+append-long [] t = omega arith
+append-long (piece ∷ s) t = simp length-append (omega (arith, append-long s t))
+
+pub together-long : (k : ℕ) (f : ℕ → Text) (n : ℕ) → ((j : ℕ) → j < n → length (allOf (f j)) ≤ k) → length (allOf (together n f)) ≤ k * n
+unfolding together allOf
+together-long k f zero short = omega arith
+together-long k f (suc n) short =
+    let r = together-long k f n (λ j h. short j (omega arith)) in
+    rw (append-long (together n f) (f n)) (omega (arith, r, short n (omega arith)))

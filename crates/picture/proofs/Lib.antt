@@ -1,1 +1,2 @@
 pub mod SvgLaws
+pub mod Lengths
