@@ -1,2 +1,0 @@
-pub mod SvgLaws
-pub mod Lengths
