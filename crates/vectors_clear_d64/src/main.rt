@@ -75,6 +75,6 @@ fn run(target: &mut [u8]) {
 }
 
 fn main() {
-    let mut target = [0u8; 210944];
+    let mut target = room::image();
     run(&mut target);
 }

@@ -75,7 +75,7 @@ fn run(target: &mut [u8], source: &mut [u8]) {
 }
 
 fn main() {
-    let mut target = [0u8; 385024];
-    let mut source = [0u8; 212992];
+    let mut target = room::image();
+    let mut source = room::disk();
     run(&mut target, &mut source);
 }

@@ -51,6 +51,6 @@ fn run(target: &mut [u8], source: &mut [u8]) {
 
 fn main() {
     let mut target = [0u8; 16384];
-    let mut source = [0u8; 212992];
+    let mut source = room::disk();
     run(&mut target, &mut source);
 }

@@ -118,7 +118,7 @@ fn run(target: &mut [u8], source: &mut [u8]) {
 }
 
 fn main() {
-    let mut target = [0u8; 81920];
-    let mut source = [0u8; 212992];
+    let mut target = room::disk();
+    let mut source = room::disk();
     run(&mut target, &mut source);
 }
