@@ -30,9 +30,9 @@ ghost use Rattle.fielbmaru.specs.Numbers.{
   freeAfter,
   changedAfter,
 };
+use clearing::Outcome;
 use nib::NibSlot;
 use nibfile::Encoded;
-use reclaim::Outcome;
 use scan::Scanned;
 use scan::SectorRecord;
 use scan::TrackRead;
