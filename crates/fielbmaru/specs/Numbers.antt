@@ -14,10 +14,10 @@ use Rattle.sector.specs.declared.Replaced.{Replaced}
 use Rattle.sector.specs.declared.Replaced.the-variants.{Written as SectorWritten, Refused as NotReplaced}
 use Rattle.nib.specs.declared.NibSlot.{NibSlot}
 use Rattle.nib.specs.declared.NibSlot.the-variants.{Ring, Empty, Refused as NoSlot}
-use Rattle.nib.specs.declared.Encoded.{Encoded}
-use Rattle.nib.specs.declared.Encoded.the-variants.{Written as FileWritten, Refused as NotEncoded}
-use Rattle.reclaim.specs.declared.Outcome.{Outcome}
-use Rattle.reclaim.specs.declared.Outcome.the-variants.{Cleared, Refused as NotCleared}
+use Rattle.nibfile.specs.declared.Encoded.{Encoded}
+use Rattle.nibfile.specs.declared.Encoded.the-variants.{Written as FileWritten, Refused as NotEncoded}
+use Rattle.clearing.specs.declared.Outcome.{Outcome}
+use Rattle.clearing.specs.declared.Outcome.the-variants.{Cleared, Refused as NotCleared}
 
 -- a track built
 abbrev pub builtNumber : Built → ℕ

@@ -9,7 +9,7 @@ ghost use Rattle.sector.specs.Rules.{readUnique, readConsistent};
 ghost use Rattle.sector.specs.Replacing.{answerOf, replacedUnique, replacedConsistent};
 ghost use Rattle.orbit.specs.Orbit.{recovered};
 ghost use Rattle.nib.specs.Slots.{slotOf};
-ghost use Rattle.nib.specs.Encoding.{encodedOf, outAfter as fileAfter};
+ghost use Rattle.nibfile.specs.Encoding.{encodedOf, outAfter as fileAfter};
 ghost use Rattle.reclaim.specs.Images.{clearedD64, clearedG64, clearedNib};
 ghost use Rattle.fielbmaru.specs.Numbers.{
   builtNumber,
@@ -30,9 +30,9 @@ ghost use Rattle.fielbmaru.specs.Numbers.{
   freeAfter,
   changedAfter,
 };
-use nib::Encoded;
+use clearing::Outcome;
 use nib::NibSlot;
-use reclaim::Outcome;
+use nibfile::Encoded;
 use scan::Scanned;
 use scan::SectorRecord;
 use scan::TrackRead;
@@ -304,7 +304,7 @@ pub extern "C" fn fielbmaru_encode_nib(
         (encodedOf (now (lengths .entry)) (now (rings .entry)) (now (out .entry))))
         × (now (out .exit) ≡ fileAfter (now (lengths .entry)) (now (zones .entry)) (now (rings .entry)) (now (out .entry))) ⌝ }
 {
-    let answer = nib::encode::encode_nib(lengths, zones, rings, out);
+    let answer = nibfile::encode_nib(lengths, zones, rings, out);
     tell_encoded(answer, written)
 }
 

@@ -1,4 +1,3 @@
 pub mod Cataloguing
 pub mod Slotting
 pub mod Longer
-pub mod Laying

@@ -1,3 +1,2 @@
 pub mod Catalogue
 pub mod Slots
-pub mod Encoding

@@ -1,6 +1,5 @@
-// NIB files: the ring and the zone of a slot. `catalogue` reads the list of the captures, `encode` makes a file.
+// NIB files: the ring and the zone of a slot. `catalogue` reads the list of the captures.
 pub mod catalogue;
-pub mod encode;
 
 ghost use mathlib.Core.Path.{_≡_};
 ghost use Rattle.nib.specs.Slots.{entryOf, ringOf, zoneOf, slotOf};
@@ -28,12 +27,6 @@ pub enum Zone {
 pub enum NibSlot {
     Ring(usize, usize, u8),
     Empty,
-    Refused(u8),
-}
-
-// The number of bytes written, or the refusal's number.
-pub enum Encoded {
-    Written(usize),
     Refused(u8),
 }
 

@@ -15,12 +15,13 @@ use Rattle.sector.specs.declared.Sector.{Sector}
 use Rattle.image.specs.declared.Table.{Table}
 use Rattle.image.specs.Rings.{noTable}
 use Rattle.image.proofs.TableLaws.{AllInside, none-inside}
-use Rattle.reclaim.specs.declared.ImageKind.{ImageKind}
-use Rattle.reclaim.specs.declared.ImageKind.the-variants.{D64}
-use Rattle.reclaim.specs.Disk.{bamFree, disk1541}
-use Rattle.reclaim.specs.Clearing.{refuse, clearing}
-use Rattle.reclaim.specs.Images.{d64Kind, byTracks, clearedD64, ringsKind, byTable}
-use Rattle.reclaim.specs.Contracts.{Complete}
+use Rattle.medium.specs.declared.ImageKind.{ImageKind}
+use Rattle.medium.specs.declared.ImageKind.the-variants.{D64}
+use Rattle.directory.specs.Disk.{bamFree, disk1541}
+use Rattle.clearing.specs.Clearing.{refuse, clearing}
+use Rattle.medium.specs.Kinds.{d64Kind, ringsKind}
+use Rattle.reclaim.specs.Images.{byTracks, clearedD64, byTable}
+use Rattle.medium.specs.Contracts.{Complete}
 
 -- a D64 image by its size
 module _ (l : List ℕ) where

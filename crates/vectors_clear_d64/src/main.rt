@@ -1,7 +1,7 @@
 // D64 images made by rows, cleared, and compared by lines with what the original did (compare/README.md).
+use clearing::Outcome;
 use libc::STDIN_FILENO;
 use libc::STDOUT_FILENO;
-use reclaim::Outcome;
 use replay::Row;
 use vectors::sum;
 

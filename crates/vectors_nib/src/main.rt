@@ -3,8 +3,8 @@ ghost use Prim.Native.Nat.{_<_, _≤_};
 ghost use lib.ListN.{length};
 use libc::STDIN_FILENO;
 use libc::STDOUT_FILENO;
-use nib::Encoded;
 use nib::Zone;
+use nibfile::Encoded;
 use replay::Row;
 use vectors::sum;
 
@@ -129,10 +129,7 @@ fn encode_into(room: &mut [u8], source: &[u8], row: Row, lengths: &[u64]) {
     let zones = craft::part(source, 210944, row.f as usize);
     let rings = craft::part(source, row.c as usize, row.d as usize);
     let mut line = [0u8; 128];
-    let mut at = tell_encoded(
-        &mut line,
-        nib::encode::encode_nib(lengths, zones, rings, room),
-    );
+    let mut at = tell_encoded(&mut line, nibfile::encode_nib(lengths, zones, rings, room));
     at = lines::sum(&mut line, at, sum::mix_all(sum::START, room));
     write(&mut line, at);
 }

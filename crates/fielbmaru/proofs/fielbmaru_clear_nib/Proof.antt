@@ -1,5 +1,5 @@
 use mathlib.Core.Path.{ap, _∙_}
-use Rattle.reclaim.specs.Clearing.{Answer}
+use Rattle.clearing.specs.Clearing.{Answer}
 use Rattle.fielbmaru.specs.Numbers.{clearedNumber, freeAfter, changedAfter}
 use borrow.Author.Needs.{needs}
 use Rattle.fielbmaru.proofs.fielbmaru_clear_nib.Statement.{statement}

@@ -1,0 +1,11 @@
+use Rattle.directory.specs.Chains.{brokenChain}
+use mathlib.Core.Path.{refl}
+use Rattle.directory.proofs.broken_chain.Statement.{statement}
+use Rattle.directory.proofs.broken_chain.Tie as tie
+
+returns : tie.Need-returns
+unfolding brokenChain
+returns c = refl
+
+pub broken-chain-spec : {M : Type 1} → statement M
+broken-chain-spec = tie.close (tie.spec returns)
