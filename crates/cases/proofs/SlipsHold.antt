@@ -8,12 +8,12 @@ use Rattle.base.proofs.Tests.{eqb-yes, ltb-yes}
 use Rattle.geometry.specs.Zones.{sectorsOf}
 use Rattle.gcr.specs.Symbols.{Bytes}
 use Rattle.track.specs.Blocks.{headerWith, headerSum}
-use Rattle.scan.specs.declared.SyncEnd.the-variants.{At, Nothing}
-use Rattle.scan.specs.Sync.{syncFrom, syncEnd}
+use Rattle.sync.specs.declared.SyncEnd.the-variants.{At, Nothing}
+use Rattle.sync.specs.Sync.{syncFrom, syncEnd}
 use Rattle.scan.specs.Scan.{nextSync}
-use Rattle.scan.specs.Visit.{DataFound, TrueHeader, byHeader}
-use Rattle.scan.proofs.SyncLaws.{at-hit, at-reset, passed}
-use Rattle.scan.proofs.SameBits.{sync-same}
+use Rattle.visit.specs.Visit.{DataFound, TrueHeader, byHeader}
+use Rattle.sync.proofs.SyncLaws.{at-hit, at-reset, passed}
+use Rattle.visit.proofs.SameBits.{sync-same}
 use Rattle.cases.specs.Slips.{Ones, Slips}
 
 -- the search of a scan at its last bit: seventeen places, and the first of them is a zero

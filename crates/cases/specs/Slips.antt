@@ -5,10 +5,10 @@ use mathlib.Core.Logic.{_≢_}
 use Rattle.geometry.specs.Zones.{sectorsOf}
 use Rattle.gcr.specs.Symbols.{Bytes}
 use Rattle.track.specs.Blocks.{headerWith}
-use Rattle.scan.specs.Sync.{syncEnd}
-use Rattle.scan.specs.declared.SyncEnd.the-variants.{At, Nothing}
+use Rattle.sync.specs.Sync.{syncEnd}
+use Rattle.sync.specs.declared.SyncEnd.the-variants.{At, Nothing}
 use Rattle.scan.specs.Scan.{nextSync}
-use Rattle.scan.specs.Visit.{DataFound, TrueHeader, byHeader}
+use Rattle.visit.specs.Visit.{DataFound, TrueHeader, byHeader}
 
 -- n places from p on hold ones
 abbrev pub Ones : (ℕ → ℕ) → ℕ → ℕ → Type 0

@@ -15,12 +15,13 @@ use Rattle.gcr.proofs.SymbolFacts.{zero-sym}
 use Rattle.gcr.proofs.DecodeLaws.{nibAt, byteAt}
 use Rattle.track.proofs.Unrolled.{Track, at-header, at-block}
 use Rattle.track.proofs.Meaning.{pairAt, Meaning}
-use Rattle.scan.specs.declared.SyncEnd.the-variants.{At}
-use Rattle.scan.specs.Sync.{syncEnd}
-use Rattle.scan.specs.Visit.{visit}
+use Rattle.sync.specs.declared.SyncEnd.the-variants.{At}
+use Rattle.sync.specs.Sync.{syncEnd}
+use Rattle.visit.specs.Visit.{visit}
 use Rattle.scan.specs.declared.SectorRecord.{SectorRecord}
-use Rattle.scan.proofs.SyncLaws.{SyncAt, sync-complete}
-use Rattle.scan.proofs.VisitLaws.{Header, Data, payloadAt, skip, good, stepOf, Led, visit-skip, visit-yes}
+use Rattle.sync.proofs.SyncLaws.{SyncAt, sync-complete}
+use Rattle.visit.proofs.VisitLaws.{Header, Data, payloadAt}
+use Rattle.scan.proofs.StepLaws.{skip, good, stepOf, Led, visit-skip, visit-yes}
 use Rattle.scan.proofs.ScanLaws.{scan, found-sync, Any, scan-reach}
 use Rattle.dropout.proofs.Cut.{dropped}
 use Rattle.dropout.proofs.TwoSymbols.{sym-same}

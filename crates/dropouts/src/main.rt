@@ -5,7 +5,7 @@ ghost use Prim.Native.Nat.{_*_, _≤_, _<_};
 ghost use Rattle.geometry.specs.Zones.{zoneOf, sectorsOf, capacityOf, slotStart};
 ghost use Rattle.ring.specs.Stretch.{distance};
 use libc::STDOUT_FILENO;
-use scan::TrackRead;
+use reading::TrackRead;
 use vectors::draw;
 use vectors::sum;
 

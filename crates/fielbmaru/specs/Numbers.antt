@@ -7,8 +7,8 @@ use Rattle.track.specs.declared.Built.{Built}
 use Rattle.track.specs.declared.Built.the-variants.{Written as TrackWritten, Refused as NotBuilt}
 use Rattle.scan.specs.declared.Scanned.{Scanned}
 use Rattle.scan.specs.declared.Scanned.the-variants.{Records, Refused as NotScanned}
-use Rattle.scan.specs.declared.TrackRead.{TrackRead}
-use Rattle.scan.specs.declared.TrackRead.the-variants.{Found, Refused as NotRead}
+use Rattle.reading.specs.declared.TrackRead.{TrackRead}
+use Rattle.reading.specs.declared.TrackRead.the-variants.{Found, Refused as NotRead}
 use Rattle.sector.specs.declared.Sector.{Sector}
 use Rattle.sector.specs.declared.Replaced.{Replaced}
 use Rattle.sector.specs.declared.Replaced.the-variants.{Written as SectorWritten, Refused as NotReplaced}

@@ -3,7 +3,8 @@
 ghost use mathlib.Core.Path.{_≡_};
 ghost use lib.ListN.{length};
 ghost use Rattle.track.specs.Answers.{built, outAfter as trackAfter};
-ghost use Rattle.scan.specs.Answers.{scanned, rowsAfter, payloadsAfter, trackRead, trackPayloads, trackStatuses};
+ghost use Rattle.scan.specs.Answers.{scanned, rowsAfter, payloadsAfter};
+ghost use Rattle.reading.specs.Answers.{trackRead, trackPayloads, trackStatuses};
 ghost use Rattle.rows.specs.Answers.{scannedInto, rowsAfter as recordsAfter};
 ghost use Rattle.sector.specs.Rules.{readUnique, readConsistent};
 ghost use Rattle.sector.specs.Replacing.{answerOf, replacedUnique, replacedConsistent};
@@ -33,9 +34,9 @@ ghost use Rattle.fielbmaru.specs.Numbers.{
 use clearing::Outcome;
 use nib::NibSlot;
 use nibfile::Encoded;
+use reading::TrackRead;
 use scan::Scanned;
 use scan::SectorRecord;
-use scan::TrackRead;
 use sector::Replaced;
 use sector::Sector;
 use track::Built;
@@ -146,7 +147,7 @@ pub extern "C" fn fielbmaru_decode_track(
         ≡ trackPayloads (now (ring .entry)) track «start_bit» (now (payloads .entry)) (now (statuses .entry)))
         × (now (statuses .exit) ≡ trackStatuses (now (ring .entry)) track «start_bit» (now (payloads .entry)) (now (statuses .entry))) ⌝ }
 {
-    let answer = scan::decode_track_from(ring, track, start_bit as usize, payloads, statuses);
+    let answer = reading::decode_track_from(ring, track, start_bit as usize, payloads, statuses);
     tell_found(answer, found)
 }
 

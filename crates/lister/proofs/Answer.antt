@@ -19,7 +19,7 @@ use Rattle.base.proofs.Stores.{count-le}
 use Rattle.base.proofs.Rows.{joined-short}
 use Rattle.geometry.specs.Zones.{sectorsOf}
 use Rattle.geometry.proofs.ZoneLaws.{sectors-of}
-use Rattle.scan.specs.Reading.{readSector, readStatuses}
+use Rattle.reading.specs.Reading.{readSector, readStatuses}
 use Rattle.text.specs.Put.{Put}
 use Rattle.lister.specs.Envelope.{isEnvelope, ringIn, trackIn, startIn, longestRing}
 use Rattle.lister.specs.Listing.{headLine, refusedLine, lineOf, ringLines, listing, listed, outAfter}

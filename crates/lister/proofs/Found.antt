@@ -21,14 +21,15 @@ use Rattle.geometry.specs.Zones.{sectorsOf}
 use Rattle.geometry.proofs.ZoneLaws.{sectors-of}
 use Rattle.gcr.proofs.DecodeLaws.{byteAt}
 use Rattle.ring.specs.Bit.{bits, bitAt}
-use Rattle.scan.specs.declared.TrackRead.{TrackRead}
-use Rattle.scan.specs.declared.TrackRead.the-variants.{Found, Refused as NotRead}
+use Rattle.reading.specs.declared.TrackRead.{TrackRead}
+use Rattle.reading.specs.declared.TrackRead.the-variants.{Found, Refused as NotRead}
 use Rattle.scan.specs.Scan.{records}
-use Rattle.scan.specs.Reading.{Reading, missing, readSector, readPayloads, readStatuses}
-use Rattle.scan.specs.Answers.{unlessRefused, roomToRead, trackRead, trackPayloads, trackStatuses}
-use Rattle.scan.proofs.VisitLaws.{visit-good}
+use Rattle.reading.specs.Reading.{Reading, missing, readSector, readPayloads, readStatuses}
+use Rattle.scan.specs.Answers.{unlessRefused}
+use Rattle.reading.specs.Answers.{roomToRead, trackRead, trackPayloads, trackStatuses}
+use Rattle.scan.proofs.StepLaws.{visit-good}
 use Rattle.scan.proofs.ScanLaws.{Every, scan-every, few-records}
-use Rattle.scan.proofs.ReadingLaws.{Handed, first-cases}
+use Rattle.reading.proofs.ReadingLaws.{Handed, first-cases}
 use Rattle.scan.proofs.Passing.{Sized}
 use Rattle.scan.proofs.Refusing.{room}
 use Rattle.text.specs.Put.{Put}

@@ -9,7 +9,7 @@ ghost use Rattle.text.specs.Put.{Put};
 ghost use Rattle.lister.specs.Envelope.{isEnvelope, longestRing};
 ghost use Rattle.lister.specs.Listing.{headLine, sectorLine, refusedLine, ringLines, listing, listed, outAfter};
 ghost use Rattle.lister.specs.Lines.{lineAt, lines};
-use scan::TrackRead;
+use reading::TrackRead;
 
 // What listing answers: how many bytes are written, or a refusal number.
 pub enum Listed {
@@ -131,7 +131,7 @@ fn put_ring(out: &mut [u8], ring: &[u8], track: u8, start: usize) -> usize
 {
     let mut payloads = [0u8; 5376];
     let mut statuses = [0u8; 21];
-    let answer = scan::decode_track_from(ring, track, start, &mut payloads, &mut statuses);
+    let answer = reading::decode_track_from(ring, track, start, &mut payloads, &mut statuses);
     match answer {
         TrackRead::Found(found) => put_track(out, track, found, &statuses, &payloads),
         TrackRead::Refused(number) => put_refused(out, number),

@@ -9,12 +9,12 @@ use mathlib.Core.Path.{_≡_, refl, sym, subst}
 use mathlib.Core.Logic.{inl, inr}
 use mathlib.Core.List.{List, [], _∷_}
 use native.Mathlib.Omega.{arith}
-use Rattle.scan.specs.declared.SyncEnd.{SyncEnd}
-use Rattle.scan.specs.declared.SyncEnd.the-variants.{At, Nothing}
+use Rattle.sync.specs.declared.SyncEnd.{SyncEnd}
+use Rattle.sync.specs.declared.SyncEnd.the-variants.{At, Nothing}
 use Rattle.scan.specs.declared.SectorRecord.{SectorRecord}
-use Rattle.scan.specs.Visit.{visit}
+use Rattle.visit.specs.Visit.{visit}
 use Rattle.scan.specs.Scan.{nextSync, recordsFrom}
-use Rattle.scan.proofs.VisitLaws.{Step, skip, good, stepOf}
+use Rattle.scan.proofs.StepLaws.{Step, skip, good, stepOf}
 use Rattle.scan.proofs.ScanLaws.{Every, Any, onStep, skip-on, good-on, next-found}
 use Rattle.scan.proofs.NextLaws.{NextIs, over, no-sync, at-sync, first-is}
 

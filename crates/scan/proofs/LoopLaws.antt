@@ -10,18 +10,19 @@ use Rattle.base.specs.Choice.{pick}
 use Rattle.base.specs.Lists.{xorOf}
 use Rattle.gcr.specs.Symbols.{Decoded, Bytes, IllegalAt}
 use Rattle.gcr.specs.Places.{decodeAt}
-use Rattle.scan.specs.declared.SyncEnd.{SyncEnd}
-use Rattle.scan.specs.declared.SyncEnd.the-variants.{At, Nothing}
-use Rattle.scan.specs.declared.HeaderAt.the-variants.{Sector, No}
-use Rattle.scan.specs.declared.DataAt.{DataAt}
-use Rattle.scan.specs.declared.DataAt.the-variants.{Good, Another, Bad}
-use Rattle.scan.specs.declared.DataBlock.{DataBlock}
-use Rattle.scan.specs.Sync.{syncEnd}
-use Rattle.scan.specs.Visit.{DataFound, BadData, AnotherHeader, GoodData, HeaderFound, BadHeader, TrueHeader}
-use Rattle.scan.specs.Visit.{FalseData, OtherMarker, at, payloadIn, byData, headerMark, byHeader, dataAt, bySync, dataFor, visit}
+use Rattle.sync.specs.declared.SyncEnd.{SyncEnd}
+use Rattle.sync.specs.declared.SyncEnd.the-variants.{At, Nothing}
+use Rattle.visit.specs.declared.HeaderAt.the-variants.{Sector, No}
+use Rattle.visit.specs.declared.DataAt.{DataAt}
+use Rattle.visit.specs.declared.DataAt.the-variants.{Good, Another, Bad}
+use Rattle.visit.specs.declared.DataBlock.{DataBlock}
+use Rattle.sync.specs.Sync.{syncEnd}
+use Rattle.visit.specs.Visit.{DataFound, BadData, AnotherHeader, GoodData, HeaderFound, BadHeader, TrueHeader}
+use Rattle.visit.specs.Visit.{FalseData, OtherMarker, at, payloadIn, byData, headerMark, byHeader, dataAt, bySync, dataFor, visit}
 use Rattle.scan.specs.Scan.{recordsFrom}
-use Rattle.scan.specs.Answers.{headerAnswer, dataAnswer}
-use Rattle.scan.proofs.VisitLaws.{Step, skip, good, stepData, stepHeader, stepOf, header→}
+use Rattle.visit.specs.Answers.{headerAnswer, dataAnswer}
+use Rattle.visit.proofs.VisitLaws.{header→}
+use Rattle.scan.proofs.StepLaws.{Step, skip, good, stepData, stepHeader, stepOf}
 use Rattle.scan.proofs.ScanLaws.{next-yes, onStep}
 use Rattle.scan.proofs.NextLaws.{visit-at, no-sync, at-sync}
 

@@ -13,14 +13,14 @@ use Rattle.base.proofs.Lists.{length-tab, getD-tab}
 use Rattle.geometry.specs.Zones.{sectorsOf}
 use Rattle.gcr.proofs.DecodeLaws.{byteAt}
 use Rattle.ring.specs.Bit.{bits, bitAt}
-use Rattle.scan.specs.declared.SyncEnd.{SyncEnd}
-use Rattle.scan.specs.declared.SyncEnd.the-variants.{At, Nothing}
+use Rattle.sync.specs.declared.SyncEnd.{SyncEnd}
+use Rattle.sync.specs.declared.SyncEnd.the-variants.{At, Nothing}
 use Rattle.scan.specs.declared.SectorRecord.{SectorRecord}
 use Rattle.scan.specs.declared.NextRecord.{NextRecord}
-use Rattle.scan.specs.Visit.{visit}
+use Rattle.visit.specs.Visit.{visit}
 use Rattle.scan.specs.Scan.{nextSync, recordsOf, recordsFrom, records}
 use Rattle.scan.specs.Answers.{nextOf}
-use Rattle.scan.proofs.VisitLaws.{Step, skip, good, stepHeader, stepOf, Good, visit-good}
+use Rattle.scan.proofs.StepLaws.{Step, skip, good, stepHeader, stepOf, Good, visit-good}
 use Rattle.scan.proofs.ScanLaws.{found-sync, next-found, visits-end, visits-none, visits-turn, onStep, one-step, skip-on, good-on}
 use Rattle.scan.proofs.ScanLaws.{few-records}
 

@@ -22,15 +22,16 @@ use Rattle.gcr.proofs.DecodeLaws.{byteAt}
 use Rattle.blocks.proofs.RoundTrips.{placed, groups-back}
 use Rattle.track.specs.Blocks.{dataBytes}
 use Rattle.track.proofs.Meaning.{data-long, data-lt}
-use Rattle.scan.specs.declared.SyncEnd.{SyncEnd}
-use Rattle.scan.specs.declared.SyncEnd.the-variants.{At, Nothing}
+use Rattle.sync.specs.declared.SyncEnd.{SyncEnd}
+use Rattle.sync.specs.declared.SyncEnd.the-variants.{At, Nothing}
 use Rattle.scan.specs.declared.SectorRecord.{SectorRecord}
-use Rattle.scan.specs.Sync.{syncEnd}
-use Rattle.scan.specs.Visit.{DataFound, BadData, AnotherHeader, GoodData, OtherMarker, FalseData, HeaderFound, BadHeader, TrueHeader}
-use Rattle.scan.specs.Visit.{at, payloadIn, byData, headerMark, dataAt, bySync, dataFor, byHeader, visit}
-use Rattle.scan.proofs.VisitLaws.{header→, header←, data→, Good, good, stepOf, visit-yes}
+use Rattle.sync.specs.Sync.{syncEnd}
+use Rattle.visit.specs.Visit.{DataFound, BadData, AnotherHeader, GoodData, OtherMarker, FalseData, HeaderFound, BadHeader, TrueHeader}
+use Rattle.visit.specs.Visit.{at, payloadIn, byData, headerMark, dataAt, bySync, dataFor, byHeader, visit}
+use Rattle.visit.proofs.VisitLaws.{header→, header←, data→}
+use Rattle.scan.proofs.StepLaws.{Good, good, stepOf, visit-yes}
 use Rattle.scan.proofs.ScanLaws.{found-sync}
-use Rattle.scan.proofs.SameBits.{Agree, sync-same, sync-from, sync-at, decode-same, withData, header-same}
+use Rattle.visit.proofs.SameBits.{Agree, sync-same, sync-from, sync-at, decode-same, withData, header-same}
 use Rattle.sector.specs.Replacing.{dataBlock}
 use Rattle.sector.specs.ReadBack.{pastData, pastHeader, pastLook}
 

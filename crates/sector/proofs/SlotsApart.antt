@@ -10,15 +10,16 @@ use native.Mathlib.Omega.{arith}
 use native.Mathlib.Decide.{decLt, ℕ-discrete}
 use Rattle.gcr.specs.Places.{decodeAt}
 use Rattle.track.proofs.Unrolled.{Track, Place, at-header, at-block, Ones10, Found, ten-ones}
-use Rattle.scan.specs.declared.SyncEnd.{SyncEnd}
-use Rattle.scan.specs.declared.SyncEnd.the-variants.{At, Nothing}
+use Rattle.sync.specs.declared.SyncEnd.{SyncEnd}
+use Rattle.sync.specs.declared.SyncEnd.the-variants.{At, Nothing}
 use Rattle.scan.specs.declared.SectorRecord.{SectorRecord}
-use Rattle.scan.specs.Sync.{syncEnd}
-use Rattle.scan.specs.Visit.{DataFound, BadData, AnotherHeader, GoodData, HeaderFound, BadHeader, TrueHeader, Visit}
-use Rattle.scan.specs.Visit.{bySync, dataFor, byHeader, visit, nextBit}
+use Rattle.sync.specs.Sync.{syncEnd}
+use Rattle.visit.specs.Visit.{DataFound, BadData, AnotherHeader, GoodData, HeaderFound, BadHeader, TrueHeader, Visit}
+use Rattle.visit.specs.Visit.{bySync, dataFor, byHeader, visit, nextBit}
 use Rattle.scan.specs.Scan.{nextSync, visits, recordsFrom}
-use Rattle.scan.proofs.SyncLaws.{SyncAt}
-use Rattle.scan.proofs.VisitLaws.{header→, Step, skip, good, stepHeader, stepOf, visit-good}
+use Rattle.sync.proofs.SyncLaws.{SyncAt}
+use Rattle.visit.proofs.VisitLaws.{header→}
+use Rattle.scan.proofs.StepLaws.{Step, skip, good, stepHeader, stepOf, visit-good}
 use Rattle.scan.proofs.ScanLaws.{found-sync, next-found, next-step, stepNext, visit-place, visit-on, skip-on, good-on}
 use Rattle.scan.proofs.ScanLaws.{visits-end, visits-none, visits-turn, onStep, Every, Any}
 use Rattle.scan.proofs.NextLaws.{at-sync}

@@ -23,11 +23,12 @@ use Rattle.ring.proofs.StretchLaws.{done}
 use Rattle.track.specs.Slots.{builtTrack}
 use Rattle.track.specs.Answers.{outAfter as builtAfter}
 use Rattle.track.proofs.Stored.{length-built, written}
-use Rattle.scan.specs.Reading.{Reading, missing, readSector, readPayloads, readStatuses}
-use Rattle.scan.specs.Answers.{trackRead, trackPayloads, trackStatuses}
-use Rattle.scan.specs.declared.TrackRead.{TrackRead}
-use Rattle.scan.specs.declared.TrackRead.the-variants.{Found, Refused}
-use Rattle.scan.proofs.Refusing.{room, short, read-goes}
+use Rattle.reading.specs.Reading.{Reading, missing, readSector, readPayloads, readStatuses}
+use Rattle.reading.specs.Answers.{trackRead, trackPayloads, trackStatuses}
+use Rattle.reading.specs.declared.TrackRead.{TrackRead}
+use Rattle.reading.specs.declared.TrackRead.the-variants.{Found, Refused}
+use Rattle.scan.proofs.Refusing.{room, short}
+use Rattle.reading.proofs.Refusing.{read-goes}
 use Rattle.dropout.specs.Demand3.{Dropout, OfBytes, damaged, own, Demand3}
 use Rattle.dropout.proofs.Theorem.{own-or-missing, demand-3, damaged-length, never-refused}
 use Rattle.survival.specs.Survival.{hasRoom, unlessRefused, answer, ringAfter, outAfter, statusesAfter, standing, ReadAfterDropout}

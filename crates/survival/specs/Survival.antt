@@ -9,9 +9,9 @@ use Rattle.base.specs.Choice.{pick}
 use Rattle.base.specs.Lists.{countOf}
 use Rattle.base.specs.Refusals.{noRoom, wrongSum}
 use Rattle.geometry.specs.Zones.{sectorsOf, capacityOf}
-use Rattle.scan.specs.Reading.{Reading, readPayloads, readStatuses}
-use Rattle.scan.specs.declared.TrackRead.{TrackRead}
-use Rattle.scan.specs.declared.TrackRead.the-variants.{Found, Refused}
+use Rattle.reading.specs.Reading.{Reading, readPayloads, readStatuses}
+use Rattle.reading.specs.declared.TrackRead.{TrackRead}
+use Rattle.reading.specs.declared.TrackRead.the-variants.{Found, Refused}
 use Rattle.dropout.specs.Demand3.{Dropout, damaged, Demand3}
 
 -- what is asked for: the track with its payloads, codes and ids, the stretch, and the bit where reading starts

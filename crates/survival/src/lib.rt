@@ -1,6 +1,6 @@
 // Demand 3 of the code: a track built, a stretch of it forced to zero, and read from a bit.
 ghost use Rattle.survival.specs.Survival.{dropoutOf, ReadAfterDropout};
-use scan::TrackRead;
+use reading::TrackRead;
 
 // The track is built in front of `ring`, `length` bits of it from bit `place` on are forced to zero, and it is read from
 // bit `start` on into `out` and `statuses`.
@@ -39,5 +39,5 @@ pub fn read_after_dropout(
     let part = &mut ring[0..capacity];
     track::build_track_with_errors(track, payloads, codes, id1, id2, part);
     ring::force_zero(part, place, length);
-    scan::decode_track_from(part, track, start, out, statuses)
+    reading::decode_track_from(part, track, start, out, statuses)
 }

@@ -2,9 +2,9 @@
 ghost use Prim.Native.Nat.{_<_, _≤_};
 use libc::STDIN_FILENO;
 use libc::STDOUT_FILENO;
+use reading::TrackRead;
 use replay::Row;
 use scan::Scanned;
-use scan::TrackRead;
 use vectors::sum;
 
 // A line with its end, written.
@@ -117,7 +117,13 @@ fn read(target: &[u8], row: Row) {
     let mut payloads = [0u8; 5376];
     let mut statuses = [0u8; 21];
     let track = (row.c % 256) as u8;
-    let answer = scan::decode_track_from(ring, track, start_of(row), &mut payloads, &mut statuses);
+    let answer = reading::decode_track_from(
+        ring,
+        track,
+        start_of(row),
+        &mut payloads,
+        &mut statuses,
+    );
     let count = geometry::sectors_per_track(track) as usize;
     let mut line = [0u8; 128];
     let at = tell_track(

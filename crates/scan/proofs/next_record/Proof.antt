@@ -5,12 +5,13 @@ use mathlib.Core.Path.{_≡_, refl, sym, ap, _∙_}
 use native.Mathlib.Omega.{arith}
 use borrow.Author.Needs.{needs}
 use Rattle.ring.specs.Bit.{bitAt}
-use Rattle.scan.specs.declared.SyncEnd.the-variants.{At}
-use Rattle.scan.specs.declared.HeaderAt.the-variants.{Sector}
-use Rattle.scan.specs.Sync.{syncEnd}
-use Rattle.scan.specs.Visit.{visit}
+use Rattle.sync.specs.declared.SyncEnd.the-variants.{At}
+use Rattle.visit.specs.declared.HeaderAt.the-variants.{Sector}
+use Rattle.sync.specs.Sync.{syncEnd}
+use Rattle.visit.specs.Visit.{visit}
 use Rattle.scan.specs.Scan.{recordsFrom}
-use Rattle.scan.specs.Answers.{headerAnswer, nextOf}
+use Rattle.visit.specs.Answers.{headerAnswer}
+use Rattle.scan.specs.Answers.{nextOf}
 use Rattle.scan.proofs.ScanLaws.{found-sync}
 use Rattle.scan.proofs.NextLaws.{over}
 use Rattle.scan.proofs.LoopLaws.{stops, no-header, no-data, bad-block, other-header, good-block}

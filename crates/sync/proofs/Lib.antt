@@ -1,0 +1,2 @@
+pub mod SyncLaws
+pub mod ChunkLaws

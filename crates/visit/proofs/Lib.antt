@@ -1,0 +1,4 @@
+pub mod VisitLaws
+pub mod BlockTests
+pub mod Copied
+pub mod SameBits

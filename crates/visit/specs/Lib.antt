@@ -1,0 +1,3 @@
+pub mod Visit
+pub mod Answers
+pub mod Helpers
