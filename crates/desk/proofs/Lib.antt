@@ -1,0 +1,4 @@
+pub mod LineLaws
+pub mod SlotLaws
+pub mod Lengths
+pub mod SlotLengths

@@ -1,0 +1,2 @@
+pub mod SvgLaws
+pub mod Lengths
