@@ -7,12 +7,12 @@ use reclaim::Outcome;
 
 fn tell(outcome: Outcome) {
     let mut line = [0u8; 128];
-    let n = desk::put_outcome(&mut line, 0, outcome);
+    let n = outcomes::put_outcome(&mut line, 0, outcome);
     io::write_all(STDERR_FILENO, lines::so_far(&line, n));
 }
 
 fn clear(image: &mut [u8]) {
-    let outcome = kinds::clear(image);
+    let outcome = clearing::clear(image);
     match outcome {
         Outcome::Cleared { free, changed } => {
             io::write_all(STDOUT_FILENO, image);

@@ -7,13 +7,13 @@ use reclaim::Outcome;
 
 fn refuse(number: u8) {
     let mut line = [0u8; 128];
-    let n = desk::put_outcome(&mut line, 0, Outcome::Refused(number));
+    let n = outcomes::put_outcome(&mut line, 0, Outcome::Refused(number));
     io::write_all(STDERR_FILENO, lines::so_far(&line, n));
 }
 
 fn put_line(file: &[u8], slot: usize) {
     let mut page = [0u8; 2048];
-    let n = desk::put_slot(&mut page, 0, file, slot);
+    let n = slot_lines::put_slot(&mut page, 0, file, slot);
     io::write_all(STDOUT_FILENO, lines::so_far(&page, n));
 }
 

@@ -7,18 +7,18 @@ use reclaim::Outcome;
 
 fn refuse(number: u8) {
     let mut line = [0u8; 128];
-    let n = desk::put_outcome(&mut line, 0, Outcome::Refused(number));
+    let n = outcomes::put_outcome(&mut line, 0, Outcome::Refused(number));
     io::write_all(STDERR_FILENO, lines::so_far(&line, n));
 }
 
 fn put_line(image: &[u8], track: u8) {
     let mut page = [0u8; 2048];
-    let n = desk::put_track(&mut page, 0, image, track);
+    let n = track_lines::put_track(&mut page, 0, image, track);
     io::write_all(STDOUT_FILENO, lines::so_far(&page, n));
 }
 
 fn put_lines(image: &[u8]) {
-    for track in 1..=kinds::LAST_TRACK {
+    for track in 1..=statuses::LAST_TRACK {
         put_line(image, track);
     }
 }

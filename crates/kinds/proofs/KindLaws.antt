@@ -15,7 +15,7 @@ use Rattle.nib.specs.Catalogue.{isNib}
 use Rattle.image.specs.G64.{isG64}
 use Rattle.kinds.specs.declared.Kind.{Kind}
 use Rattle.kinds.specs.declared.Kind.the-variants.{D64, G64, Nib}
-use Rattle.kinds.specs.Kinds.{bySize, kindOf, faultBy, faultOf, clearedAs, cleared}
+use Rattle.kinds.specs.Kinds.{bySize, kindOf, faultBy, faultOf}
 
 module _ (image : List ℕ) where
   pub kind-g64 : isG64 image ≡ true → G64 ≡ kindOf image
@@ -35,10 +35,6 @@ module _ (image : List ℕ) where
     pub fault-is : faultBy image k ≡ faultOf image
     unfolding faultOf
     fault-is = ap (faultBy image) (sym e)
-
-    pub cleared-is : clearedAs image k ≡ cleared image
-    unfolding cleared
-    cleared-is = ap (clearedAs image) (sym e)
 
 -- a D64 has at most 42 tracks
 size-highest : (size n : ℕ) (k : TrackCount) → tracksOf size ≡ k → bySize k ≡ D64 n → n ≤ 42

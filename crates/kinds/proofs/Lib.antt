@@ -1,2 +1,1 @@
 pub mod KindLaws
-pub mod StatusLaws

@@ -1,4 +1,4 @@
--- The kind of an image, what keeps it from being read, and what clearing it leaves.
+-- The kind of an image, and what keeps it from being read.
 use Prim.Native.Nat.{ℕ}
 use mathlib.Core.List.{List}
 use lib.ListN.{length}
@@ -11,8 +11,6 @@ use Rattle.nib.specs.declared.Pairs.{Pairs}
 use Rattle.nib.specs.declared.Pairs.the-variants.{Count, Refused as NoCatalogue}
 use Rattle.nib.specs.Catalogue.{isNib, catalogueOf}
 use Rattle.image.specs.G64.{isG64, g64Table}
-use Rattle.reclaim.specs.Clearing.{Answer, refuse}
-use Rattle.reclaim.specs.Images.{clearedD64, clearedG64, clearedNib}
 use Rattle.kinds.specs.declared.Kind.{Kind}
 use Rattle.kinds.specs.declared.Kind.the-variants.{D64, G64, Nib, Unknown}
 
@@ -37,13 +35,3 @@ faultBy image Unknown = wrongImage
 
 unfoldable pub faultOf : List ℕ → ℕ
 faultOf image = faultBy image (kindOf image)
-
--- clearing, by the kind
-abbrev pub clearedAs : List ℕ → Kind → Answer
-clearedAs image (D64 n) = clearedD64 image
-clearedAs image G64 = clearedG64 image
-clearedAs image Nib = clearedNib image
-clearedAs image Unknown = refuse image wrongImage
-
-unfoldable pub cleared : List ℕ → Answer
-cleared image = clearedAs image (kindOf image)

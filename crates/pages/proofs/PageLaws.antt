@@ -79,6 +79,9 @@ printed text bytes after r h e =
     ∙ take-at (allOf text) (drop r bytes) r m
 
 -- ---- how long a text is
+abbrev pub Within : ℕ → Text → Type 0
+Within n text = length (allOf text) ≤ n
+
 pub append-long : (s t : Text) → length (allOf (s ++ t)) ≡ length (allOf s) + length (allOf t)
 unfolding allOf
 append-long [] t = omega arith

@@ -1,2 +1,2 @@
-pub mod SvgLaws
+pub mod FrameLaws
 pub mod Lengths

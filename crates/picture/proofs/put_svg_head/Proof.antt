@@ -1,4 +1,5 @@
-use Rattle.picture.proofs.SvgLaws.{head-put}
+use Rattle.picture.specs.Frame.{svgHead}
+use Rattle.picture.proofs.FrameLaws.{four-put}
 use borrow.Author.Needs.{needs}
 use Rattle.picture.proofs.put_svg_head.Statement.{statement}
 use Rattle.picture.proofs.put_svg_head.Tie as tie
@@ -31,7 +32,8 @@ same-length : tie.Need-same-length
 same-length c = search needs
 
 returns : tie.Need-returns
-returns c = head-put _ _ _ _ _
+unfolding svgHead
+returns c = four-put _ _ _ _ _ _ _ _ _
     (c .before .before .before .before .before .before .before .before .before .before .before .before .before .before .before .before
     .before .words .ensures)
     (c .before .before .before .before .before .before .before .before .before .before .before .before .words2 .ensures)

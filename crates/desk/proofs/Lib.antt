@@ -1,4 +1,0 @@
-pub mod LineLaws
-pub mod SlotLaws
-pub mod Lengths
-pub mod SlotLengths
