@@ -12,7 +12,7 @@ fn tell(outcome: Outcome) {
 }
 
 fn clear(image: &mut [u8]) {
-    let outcome = clearing::clear(image);
+    let outcome = any_kind::clear(image);
     match outcome {
         Outcome::Cleared { free, changed } => {
             io::write_all(STDOUT_FILENO, image);

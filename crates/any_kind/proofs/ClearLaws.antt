@@ -5,7 +5,7 @@ use mathlib.Core.List.{List}
 use Prim.Native.Nat.{ℕ}
 use Rattle.kinds.specs.declared.Kind.{Kind}
 use Rattle.kinds.specs.Kinds.{kindOf}
-use Rattle.clearing.specs.AnyKind.{clearedAs, cleared}
+use Rattle.any_kind.specs.AnyKind.{clearedAs, cleared}
 
 pub cleared-is : (image : List ℕ) (k : Kind) → kindOf image ≡ k → clearedAs image k ≡ cleared image
 unfolding cleared

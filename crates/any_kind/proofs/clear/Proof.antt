@@ -1,8 +1,8 @@
-use Rattle.clearing.proofs.ClearLaws.{cleared-is}
+use Rattle.any_kind.proofs.ClearLaws.{cleared-is}
 use mathlib.Core.Path.{sym, _∙_}
 use borrow.Author.Needs.{needs}
-use Rattle.clearing.proofs.clear.Statement.{statement}
-use Rattle.clearing.proofs.clear.Tie as tie
+use Rattle.any_kind.proofs.clear.Statement.{statement}
+use Rattle.any_kind.proofs.clear.Tie as tie
 
 image-kind-requires : tie.Need-image-kind-requires
 image-kind-requires c κs = search needs

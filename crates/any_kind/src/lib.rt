@@ -1,7 +1,7 @@
 // Clearing an image of any kind.
 ghost use mathlib.Core.Path.{_≡_};
 ghost use Rattle.reclaim.specs.Contracts.{answer};
-ghost use Rattle.clearing.specs.AnyKind.{cleared};
+ghost use Rattle.any_kind.specs.AnyKind.{cleared};
 use kinds::Kind;
 use reclaim::Outcome;
 
