@@ -1,0 +1,19 @@
+// Clearing an image of any kind.
+ghost use mathlib.Core.Path.{_≡_};
+ghost use Rattle.clearing.specs.Contracts.{answer};
+ghost use Rattle.any_kind.specs.AnyKind.{cleared};
+use clearing::Outcome;
+use kinds::Kind;
+
+// Clears the free sectors of an image of any kind.
+pub fn clear(image: &mut [u8]) -> Outcome
+    ensures { λ r. ⌜ answer (now (image .exit)) r ≡ cleared (now (image .entry)) ⌝ }
+{
+    let kind = kinds::image_kind(image);
+    match kind {
+        Kind::D64(_) => reclaim::clear_d64(image),
+        Kind::G64 => reclaim::clear_g64(image),
+        Kind::Nib => reclaim::clear_nib(image),
+        Kind::Unknown => Outcome::Refused(base::WRONG_IMAGE),
+    }
+}

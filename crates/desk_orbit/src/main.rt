@@ -1,0 +1,46 @@
+// The slots of a NIB file, read from standard input: a line for each. A refusal goes to standard error.
+use clearing::Outcome;
+use libc::STDERR_FILENO;
+use libc::STDIN_FILENO;
+use libc::STDOUT_FILENO;
+use nib::Pairs;
+
+fn refuse(number: u8) {
+    let mut line = [0u8; 128];
+    let n = outcomes::put_outcome(&mut line, 0, Outcome::Refused(number));
+    io::write_all(STDERR_FILENO, lines::so_far(&line, n));
+}
+
+fn put_line(file: &[u8], slot: usize) {
+    let mut page = [0u8; 2048];
+    let n = slot_lines::put_slot(&mut page, 0, file, slot);
+    io::write_all(STDOUT_FILENO, lines::so_far(&page, n));
+}
+
+fn put_lines(file: &[u8]) {
+    for slot in 0..84 {
+        put_line(file, slot);
+    }
+}
+
+fn list(file: &[u8]) {
+    let pairs = nib::catalogue::read_catalogue(file);
+    match pairs {
+        Pairs::Count(_) => put_lines(file),
+        Pairs::Refused(number) => refuse(number),
+    }
+}
+
+fn run(buffer: &mut [u8]) {
+    let n = io::read_full(STDIN_FILENO, buffer);
+    if n == buffer.len() {
+        refuse(base::RING_TOO_LONG);
+        return;
+    }
+    list(&buffer[..n]);
+}
+
+fn main() {
+    let mut buffer = room::image();
+    run(&mut buffer);
+}

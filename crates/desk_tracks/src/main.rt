@@ -1,0 +1,47 @@
+// The tracks of an image, read from standard input: a line for each, with the sectors that read and those that do not. A refusal goes
+// to standard error.
+use clearing::Outcome;
+use libc::STDERR_FILENO;
+use libc::STDIN_FILENO;
+use libc::STDOUT_FILENO;
+
+fn refuse(number: u8) {
+    let mut line = [0u8; 128];
+    let n = outcomes::put_outcome(&mut line, 0, Outcome::Refused(number));
+    io::write_all(STDERR_FILENO, lines::so_far(&line, n));
+}
+
+fn put_line(image: &[u8], track: u8) {
+    let mut page = [0u8; 2048];
+    let n = track_lines::put_track(&mut page, 0, image, track);
+    io::write_all(STDOUT_FILENO, lines::so_far(&page, n));
+}
+
+fn put_lines(image: &[u8]) {
+    for track in 1..=statuses::LAST_TRACK {
+        put_line(image, track);
+    }
+}
+
+fn list(image: &[u8]) {
+    let fault = kinds::image_fault(image);
+    if fault == 0 {
+        put_lines(image);
+    } else {
+        refuse(fault);
+    }
+}
+
+fn run(buffer: &mut [u8]) {
+    let n = io::read_full(STDIN_FILENO, buffer);
+    if n == buffer.len() {
+        refuse(base::RING_TOO_LONG);
+        return;
+    }
+    list(&buffer[..n]);
+}
+
+fn main() {
+    let mut buffer = room::image();
+    run(&mut buffer);
+}

@@ -1,0 +1,56 @@
+use Rattle.slot_sectors.proofs.SectorLaws.{lost-ring, lost-neither, lost-put}
+use borrow.Author.Needs.{needs}
+use Rattle.slot_sectors.proofs.put_lost_at.Statement.{statement}
+use Rattle.slot_sectors.proofs.put_lost_at.Tie as tie
+
+shared-slice-read-if1 : tie.Need-shared-slice-read-if1
+shared-slice-read-if1 c = search needs
+
+returns : tie.Need-returns
+returns c = let a = c .before .before .before .before .before .args in lost-ring _ (a .ring .now) (a .window .now) (a .j) (c .if1 .taken)
+
+shared-slice-read-if2 : tie.Need-shared-slice-read-if2
+shared-slice-read-if2 c = search needs
+
+returns-2 : tie.Need-returns-2
+returns-2 c = let a = c .before .before .before .before .before .before .before .args in lost-neither _ (a .ring .now) (a .window .now)
+    (a .j) (c .before .before .if1 .left) (c .if2 .taken)
+
+slice-aggregate-counted : tie.Need-slice-aggregate-counted
+slice-aggregate-counted c = search needs
+
+counted-requires : tie.Need-counted-requires
+counted-requires c κs = search needs
+
+slice-aggregate-words : tie.Need-slice-aggregate-words
+slice-aggregate-words c = search needs
+
+words-requires : tie.Need-words-requires
+words-requires c κs = search needs
+
+same-length : tie.Need-same-length
+same-length c = search needs
+
+returns-3 : tie.Need-returns-3
+returns-3 c =
+    let a = c .before .before .before .before .before .before .before .before .before .before .before .before .before .before .before
+    .before .before .args in
+    lost-put _ (a .ring .now) (a .window .now) (a .j)
+    (c .before .before .before .before .before .before .before .before .before .before .before .before .if1 .left) _ _
+    (c .before .before .before .before .before .before .before .before .before .before .if2 .left)
+    (c .before .before .before .before .before .before .before .counted .ensures) (c .before .before .words .ensures)
+
+pub put-lost-at-spec : {M : Type 1} → statement M
+put-lost-at-spec =
+    tie.close
+    (tie.spec
+    shared-slice-read-if1
+    returns
+    shared-slice-read-if2
+    returns-2
+    slice-aggregate-counted
+    counted-requires
+    slice-aggregate-words
+    words-requires
+    same-length
+    returns-3)
