@@ -1,5 +1,6 @@
 use lib.ListN.{length-take, length-drop}
-use Rattle.nibfile.proofs.Laying.{rings-start, rings-one, rings-skip, rings-mono, sum-start, sum-next, sum-le, windows-skip, windows-one}
+use Rattle.nibfile.proofs.Laying.{rings-start, rings-one, rings-skip, rings-mono}
+use Rattle.nibfile.proofs.Laying.{sum-start, sum-next, sum-le, windows-skip, windows-one}
 use Rattle.nibfile.specs.Encoding.{sumTo, windowOf, ringsTo}
 use Rattle.base.specs.Lists.{joined}
 use Rattle.base.proofs.Lists.{joined-empty}
