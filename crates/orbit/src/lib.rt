@@ -26,7 +26,7 @@ const HIGHEST: [usize; 4] = [6311, 6726, 7201, 7824];
 const MIDDLE: [usize; 4] = [6247, 6662, 7137, 7720];
 
 // The pairs of equal bytes of a window that lie a span apart.
-fn agreements(window: &[u8], span: usize) -> usize
+pub fn agreements(window: &[u8], span: usize) -> usize
     requires { ⌜ span ≤ length (now window) ⌝ }
     ensures { λ r. ⌜ (r ≡ agreementsOf (now (window .entry)) span) × (r ≤ length (now (window .entry)) - span) ⌝ }
 {

@@ -30,7 +30,7 @@ use Rattle.scan.proofs.Passing.{endOf, Sized, Passing, sets-out, passes, all-pa
 -- ---- the first record of a sector, with a record more
 module _ (j : ℕ) (r : SectorRecord) where
   -- a record of another sector; a second record; and a first one
-  first-other : (l : List SectorRecord) → r .sector ≢ j → firstOf j (l ++ (r ∷ [])) ≡ firstOf j l
+  pub first-other : (l : List SectorRecord) → r .sector ≢ j → firstOf j (l ++ (r ∷ [])) ≡ firstOf j l
   unfolding firstOf
   first-other [] n = ap (λ (b : Bool). pick b (handedOut (r .payload)) missing) (eqb-no (r .sector) j n)
   first-other (q ∷ l) n = ap (pick (eqb (q .sector) j) (handedOut (q .payload))) (first-other l n)

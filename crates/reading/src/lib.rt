@@ -16,7 +16,7 @@ pub enum TrackRead {
 }
 
 // The first n bytes made `value`.
-fn fill(out: &mut [u8], n: usize, value: u8)
+pub fn fill(out: &mut [u8], n: usize, value: u8)
     requires { ⌜ n ≤ length (now out) ⌝ }
     ensures { λ r. ⌜ now (out .exit) ≡ replicate n value ++ drop n (now (out .entry)) ⌝ }
 {
@@ -28,9 +28,9 @@ fn fill(out: &mut [u8], n: usize, value: u8)
 }
 
 // A sector's status: handed out, or missing.
-const HANDED_OUT: u8 = 1;
+pub const HANDED_OUT: u8 = 1;
 
-const MISSING: u8 = 2;
+pub const MISSING: u8 = 2;
 
 // A record's payload handed out, unless its sector has been: 1, else 0.
 fn keep_first(payloads: &mut [u8], statuses: &mut [u8], row: SectorRecord) -> usize

@@ -5,6 +5,7 @@ ghost use lib.ListN.{length};
 ghost use Rattle.pages.specs.Page.{sheet, writes};
 ghost use mathlib.Core.List.{[]};
 ghost use Rattle.base.specs.Choice.{pick};
+ghost use Rattle.ring.specs.Bit.{IsRing};
 ghost use Rattle.slot_sectors.specs.Sectors.{sectorsText};
 ghost use Rattle.slot_lines.specs.Slots.{isWhole, trackOf, nameText, slotLine, slotText};
 use nib::NibSlot;
@@ -21,7 +22,7 @@ fn put_name(page: &mut [u8], at: usize, slot: usize) -> usize
 
 // A half-track between two tracks has no sectors.
 fn put_if_whole(page: &mut [u8], at: usize, window: &[u8], slot: usize, span: usize) -> usize
-    requires { ⌜ (span ≤ length (now window)) × (slot ≤ 83) ⌝ }
+    requires { ⌜ (IsRing (now window)) × (span ≤ length (now window)) × (slot ≤ 83) ⌝ }
     ensures { λ r. ⌜ sheet (now (page .exit)) r ≡ writes (sheet (now (page .entry)) at)
         (pick (isWhole slot) (sectorsText (now (window .entry)) span (trackOf slot)) []) ⌝ }
 {
@@ -39,7 +40,7 @@ fn put_window(
     span: usize,
     zone: u8,
 ) -> usize
-    requires { ⌜ (span ≤ length (now window)) × (slot ≤ 83) ⌝ }
+    requires { ⌜ (IsRing (now window)) × (span ≤ length (now window)) × (slot ≤ 83) ⌝ }
     ensures { λ r. ⌜ sheet (now (page .exit)) r ≡ writes (sheet (now (page .entry)) at) (slotLine (now (window .entry)) slot span zone) ⌝ }
 {
     let a = put_name(page, at, slot);

@@ -3,6 +3,7 @@
 use mathlib.Core.List.{List, [], _∷_, _++_}
 use Prim.Native.Nat.{ℕ, _≤_, _<_}
 use native.Mathlib.Omega.{arith}
+use mathlib.Core.Bool.{_&&_, not}
 use lib.ListN.{length, take, length-append}
 use Rattle.geometry.proofs.ZoneLaws.{sectors-of}
 use Rattle.lines.specs.Line.{numberText}
@@ -13,23 +14,29 @@ use Rattle.statuses.proofs.StatusLaws.{ring-count}
 use Rattle.base.proofs.Picks.{pick-ind}
 use Rattle.text.proofs.DecimalLaws.{decimal-width}
 use Rattle.tally.specs.Tally.{tally}
-use Rattle.slot_sectors.specs.Sectors.{isLost, lostAt, lostText, foundText, sectorsText}
 use Rattle.tally.proofs.Lengths.{tally-long}
+use Rattle.turns.specs.Turn.{turnStatuses}
+use Rattle.slot_sectors.specs.Sectors.{has, whereabouts, lostAt, lostText, foundText, sectorsText}
 
-lost-at-long : (ring window : List ℕ) (j : ℕ) → j < 21 → Within 32 (lostAt ring window j)
+where-long : (turn : List ℕ) (j : ℕ) → length (whereabouts turn j) ≤ 21
+where-long turn j =
+    pick-ind (λ (l : List ℕ). length l ≤ 21) (has turn j) (ascii " lost across the join") (ascii " only behind the span")
+    (λ e. omega arith) (λ e. omega arith)
+
+lost-at-long : (ring turn window : List ℕ) (j : ℕ) → j < 21 → Within 32 (lostAt ring turn window j)
 unfolding allOf
-lost-at-long ring window j h =
-    pick-ind (Within 32) (isLost ring window j) (ascii "; sector" ∷ numberText j ∷ ascii " lost across the join" ∷ []) []
-    (λ e. simp length-append (omega (arith, decimal-width 1 j (omega arith)))) (λ e. omega arith)
+lost-at-long ring turn window j h =
+    pick-ind (Within 32) (not (has ring j) && has window j) (ascii "; sector" ∷ numberText j ∷ whereabouts turn j ∷ []) []
+    (λ e. simp length-append (omega (arith, decimal-width 1 j (omega arith), where-long turn j))) (λ e. omega arith)
 
-found-long : (ring window : List ℕ) → length ring ≤ 21 → length window ≤ 21 → Within 900 (foundText ring window)
+found-long : (ring turn window : List ℕ) → length ring ≤ 21 → length window ≤ 21 → Within 900 (foundText ring turn window)
 unfolding lostText
-found-long ring window r w =
-    let l = together-long 32 (lostAt ring window) (length ring) (λ j h. lost-at-long ring window j (omega arith)) in
+found-long ring turn window r w =
+    let l = together-long 32 (lostAt ring turn window) (length ring) (λ j h. lost-at-long ring turn window j (omega arith)) in
     omega (
       arith,
-      append-long (tally (ascii " ring") ring) (tally (ascii " window") window ++ together (length ring) (lostAt ring window)),
-      append-long (tally (ascii " window") window) (together (length ring) (lostAt ring window)),
+      append-long (tally (ascii " ring") ring) (tally (ascii " window") window ++ together (length ring) (lostAt ring turn window)),
+      append-long (tally (ascii " window") window) (together (length ring) (lostAt ring turn window)),
       tally-long (ascii " ring") ring r,
       tally-long (ascii " window") window w,
       l,
@@ -39,5 +46,5 @@ pub sectors-long : (window : List ℕ) (span track : ℕ) → Within 900 (sector
 unfolding sectorsText
 sectors-long window span track =
     let s = sectors-of track in
-    found-long (ringStatuses (take span window) track) (ringStatuses window track)
+    found-long (ringStatuses (take span window) track) (turnStatuses window span track) (ringStatuses window track)
     (omega (arith, ring-count (take span window) track)) (omega (arith, ring-count window track))

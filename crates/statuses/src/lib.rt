@@ -15,11 +15,8 @@ pub const LAST_TRACK: u8 = 42;
 fn fill(part: &mut [u8], v: u8)
     ensures { λ r. ⌜ now (part .exit) ≡ replicate (length (now (part .entry))) v ⌝ }
 {
-    let mut i: usize = 0;
-    while i < part.len() {
-        part[i] = v;
-        i += 1;
-    }
+    let count = part.len();
+    reading::fill(part, count, v);
 }
 
 // The error byte of a sector, 1 where the image has none.

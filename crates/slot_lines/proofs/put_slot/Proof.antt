@@ -41,7 +41,7 @@ put-window-requires c κs =
     let s = c .before .before .before .found .given .0 .0 in
     let l : length (take (s + 8192 - s) (drop s f)) ≡ s + 8192 - s =
     length-take-le (s + 8192 - s) (drop s f) (omega (arith, length-drop s f, w)) in
-    omega (arith, w, l)
+    (record { some = omega (arith, l); small = omega (arith, l) }, omega (arith, w, l), w .low)
 
 enum-told : tie.Need-enum-told
 enum-told c = search needs

@@ -24,8 +24,8 @@ same-length c = search needs
 returns : tie.Need-returns
 returns c =
     let a = c .before .before .before .before .before .before .before .before .before .before .before .before .before .before .before
-    .before .before .args in
-    found-put _ _ _ _ (a .ring .now) (a .window .now)
+    .before .before .before .args in
+    found-put _ _ _ _ (a .ring .now) (a .turn .now) (a .window .now)
     (c .before .before .before .before .before .before .before .before .before .before .before .put-tally .ensures)
     (c .before .before .before .before .before .before .put-tally2 .ensures) (c .before .before .put-lost .ensures)
 

@@ -11,18 +11,18 @@ use Rattle.slot_sectors.proofs.put_lost.Statement.{statement}
 use Rattle.slot_sectors.proofs.put_lost.Tie as tie
 
 abbrev Inv-loop : tie.InvT-loop
-Inv-loop page₀ at ring window behind₀ j₀ page behind j =
-    (j ≤ length ring) × (length page ≡ length page₀) × (sheet page behind ≡ writes (sheet page₀ at) (together j (lostAt ring window)))
+Inv-loop page₀ at ring turn window behind₀ j₀ page behind j =
+    (j ≤ length ring) × (length page ≡ length page₀) × (sheet page behind ≡ writes (sheet page₀ at) (together j (lostAt ring turn window)))
 
 abbrev μ-loop : tie.MeasureT-loop
-μ-loop page₀ at ring window behind₀ j₀ page behind j = length ring - j
+μ-loop page₀ at ring turn window behind₀ j₀ page behind j = length ring - j
 
 loop-holds : tie.Need-loop-holds Inv-loop μ-loop
-loop-holds c = let a = c .before .before .before .args in
-    (omega arith, refl, none-together (sheet (a .page .now) (a .at)) (lostAt (a .ring .now) (a .window .now)))
+loop-holds c = let a = c .before .before .before .before .args in
+    (omega arith, refl, none-together (sheet (a .page .now) (a .at)) (lostAt (a .ring .now) (a .turn .now) (a .window .now)))
 
 put-lost-at-requires : tie.Need-put-lost-at-requires Inv-loop μ-loop
-put-lost-at-requires c κs = omega arith
+put-lost-at-requires c κs = (omega arith, omega arith, omega arith)
 
 add-j : tie.Need-add-j Inv-loop μ-loop
 add-j c = omega arith
@@ -34,11 +34,11 @@ loop-again : tie.Need-loop-again Inv-loop μ-loop
 loop-again c =
     let p = c .before .before .put-lost-at in
     let l = c .before .before .before .before .before .loop in
-    let a = c .before .before .before .before .before .before .before .before .before .args in (
+    let a = c .before .before .before .before .before .before .before .before .before .before .args in (
       omega arith,
       p .kept .0 ∙ l .inv .1,
       one-more (sheet (a .page .now) (a .at)) (sheet (l .page) (l .behind)) (sheet (p .last .0) (p .result))
-          (lostAt (a .ring .now) (a .window .now)) (l .j) (l .inv .2) (p .ensures),
+          (lostAt (a .ring .now) (a .turn .now) (a .window .now)) (l .j) (l .inv .2) (p .ensures),
     )
 
 same-length : tie.Need-same-length Inv-loop μ-loop
@@ -47,8 +47,8 @@ same-length c = search needs
 returns : tie.Need-returns Inv-loop μ-loop
 returns c =
     let l = c .before .loop in
-    let a = c .before .before .before .before .before .args in
-    all-lost (sheet (a .page .now) (a .at)) (sheet (l .page) (l .behind)) (a .ring .now) (a .window .now) (l .j) (omega arith) (l .inv .2)
+    let a = c .before .before .before .before .before .before .args in
+    all-lost (sheet (a .page .now) (a .at)) (sheet (l .page) (l .behind)) (a .ring .now) (a .turn .now) (a .window .now) (l .j) (omega arith) (l .inv .2)
 
 pub put-lost-spec : {M : Type 1} → statement M
 put-lost-spec =

@@ -1,4 +1,4 @@
-use Rattle.slot_sectors.proofs.SectorLaws.{lost-ring, lost-neither, lost-put}
+use Rattle.slot_sectors.proofs.SectorLaws.{lost-ring, lost-neither, lost-across, lost-behind}
 use borrow.Author.Needs.{needs}
 use Rattle.slot_sectors.proofs.put_lost_at.Statement.{statement}
 use Rattle.slot_sectors.proofs.put_lost_at.Tie as tie
@@ -7,20 +7,22 @@ shared-slice-read-if1 : tie.Need-shared-slice-read-if1
 shared-slice-read-if1 c = search needs
 
 returns : tie.Need-returns
-returns c = let a = c .before .before .before .before .before .args in lost-ring _ (a .ring .now) (a .window .now) (a .j) (c .if1 .taken)
+returns c = let a = c .before .before .before .before .before .before .args in lost-ring _ (a .ring .now) (a .turn .now) (a .window .now) (a .j) (c .if1 .taken)
 
 shared-slice-read-if2 : tie.Need-shared-slice-read-if2
 shared-slice-read-if2 c = search needs
 
 returns-2 : tie.Need-returns-2
-returns-2 c = let a = c .before .before .before .before .before .before .before .args in lost-neither _ (a .ring .now) (a .window .now)
-    (a .j) (c .before .before .if1 .left) (c .if2 .taken)
+returns-2 c = let a = c .before .before .before .before .before .before .before .before .args in lost-neither _ (a .ring .now) (a .turn .now) (a .window .now) (a .j) (c .before .before .if1 .left) (c .if2 .taken)
 
 slice-aggregate-counted : tie.Need-slice-aggregate-counted
 slice-aggregate-counted c = search needs
 
 counted-requires : tie.Need-counted-requires
 counted-requires c κs = search needs
+
+shared-slice-read-if3 : tie.Need-shared-slice-read-if3
+shared-slice-read-if3 c = search needs
 
 slice-aggregate-words : tie.Need-slice-aggregate-words
 slice-aggregate-words c = search needs
@@ -33,12 +35,26 @@ same-length c = search needs
 
 returns-3 : tie.Need-returns-3
 returns-3 c =
-    let a = c .before .before .before .before .before .before .before .before .before .before .before .before .before .before .before
-    .before .before .args in
-    lost-put _ (a .ring .now) (a .window .now) (a .j)
-    (c .before .before .before .before .before .before .before .before .before .before .before .before .if1 .left) _ _
-    (c .before .before .before .before .before .before .before .before .before .before .if2 .left)
-    (c .before .before .before .before .before .before .before .counted .ensures) (c .before .before .words .ensures)
+    let d = c .before .before .before .before .before in
+    let a = d .before .before .before .before .before .before .before .before .before .before .before .before .before .before .before .args in
+    lost-across _ (a .ring .now) (a .turn .now) (a .window .now) (a .j) (d .before .before .before .before .before .before .before .before .before .if1 .left) _ _ (d .before .before .before .before .before .before .before .if2 .left) (d .before .before .before .before .counted .ensures) (d .if3 .taken)
+    (c .before .before .words .ensures)
+
+slice-aggregate-words-2 : tie.Need-slice-aggregate-words-2
+slice-aggregate-words-2 c = search needs
+
+words-requires-2 : tie.Need-words-requires-2
+words-requires-2 c κs = search needs
+
+same-length-2 : tie.Need-same-length-2
+same-length-2 c = search needs
+
+returns-4 : tie.Need-returns-4
+returns-4 c =
+    let d = c .before .before .before .before .before in
+    let a = d .before .before .before .before .before .before .before .before .before .before .before .before .before .before .before .args in
+    lost-behind _ (a .ring .now) (a .turn .now) (a .window .now) (a .j) (d .before .before .before .before .before .before .before .before .before .if1 .left) _ _ (d .before .before .before .before .before .before .before .if2 .left) (d .before .before .before .before .counted .ensures) (d .if3 .left)
+    (c .before .before .words2 .ensures)
 
 pub put-lost-at-spec : {M : Type 1} → statement M
 put-lost-at-spec =
@@ -50,7 +66,12 @@ put-lost-at-spec =
     returns-2
     slice-aggregate-counted
     counted-requires
+    shared-slice-read-if3
     slice-aggregate-words
     words-requires
     same-length
-    returns-3)
+    returns-3
+    slice-aggregate-words-2
+    words-requires-2
+    same-length-2
+    returns-4)

@@ -44,7 +44,7 @@ returns c =
     (c .before .before .before .before .before .before .before .before .before .before .before .before .before .before .before
     .before .before .before .before .before .agreements .result)
     (c .before .before .before .before .before .before .before .before .before .before .before .before .before .before
-    .before .before .before .before .before .before .agreements .ensures)
+    .before .before .before .before .before .before .agreements .ensures .0)
     (c .before .before .before .before .before .before .before .before .before .before .before .before .before
     .before .before .before .before .counted .ensures)
     (c .before .before .before .before .before .before .before .before .before .before .before .before .counted2 .ensures)

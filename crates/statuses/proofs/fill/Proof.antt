@@ -1,60 +1,24 @@
-use mathlib.Core.Path.{_≡_, refl, ap, _∙_}
+use mathlib.Core.Path.{_∙_, ap}
 use mathlib.Core.List.{List, _++_, append-nil}
-use Prim.Native.Nat.{ℕ, _-_, _≤_}
-use native.Mathlib.Omega.{arith}
-use borrow.Author.Fill.{fill-none, fill-more}
-use lib.ListN.{length, drop, set, replicate, length-set}
+use Prim.Native.Nat.{ℕ}
+use borrow.Author.Needs.{needs}
+use lib.ListN.{length, replicate}
 use lib.Seq.{drop-length}
 use Rattle.statuses.proofs.fill.Statement.{statement}
 use Rattle.statuses.proofs.fill.Tie as tie
 
-abbrev Inv-loop : tie.InvT-loop
-Inv-loop part₀ v i₀ part i = (i ≤ length part₀) × (length part ≡ length part₀) × (part ≡ replicate i v ++ drop i part₀)
+fill-requires : tie.Need-fill-requires
+fill-requires c κs = search needs
 
-abbrev μ-loop : tie.MeasureT-loop
-μ-loop part₀ v i₀ part i = length part₀ - i
+same-length : tie.Need-same-length
+same-length c = search needs
 
-loop-holds : tie.Need-loop-holds Inv-loop μ-loop
-loop-holds c = (omega arith, refl, fill-none _ (c .args .v))
-
-slice-write-part : tie.Need-slice-write-part Inv-loop μ-loop
-slice-write-part c = omega arith
-
-add-i : tie.Need-add-i Inv-loop μ-loop
-add-i c = omega arith
-
-loop-less : tie.Need-loop-less Inv-loop μ-loop
-loop-less c = omega arith
-
-loop-again : tie.Need-loop-again Inv-loop μ-loop
-loop-again c =
-    let l = c .before in
-    let a = l .before .args in (
-      omega arith,
-      simp length-set (l .loop .inv .1),
-      ap (λ (p : List ℕ). set p (l .loop .i) (a .v)) (l .loop .inv .2) ∙ fill-more (l .loop .i) (a .v) (a .part .now) (omega arith),
-    )
-
-same-length : tie.Need-same-length Inv-loop μ-loop
-same-length c = c .before .loop .inv .1
-
-returns : tie.Need-returns Inv-loop μ-loop
+returns : tie.Need-returns
 returns c =
-    let l = c .before in
-    let a = l .before .args in
-    let e : l .loop .i ≡ length (a .part .now) = omega arith in
-    l .loop .inv .2 ∙ rw (e, drop-length, append-nil)
+    let a = c .before .before .before .before .before .args in
+    c .before .before .fill .ensures
+    ∙ ap (λ (l : List ℕ). replicate (length (a .part .now)) (a .v) ++ l) (drop-length (a .part .now))
+    ∙ append-nil (replicate (length (a .part .now)) (a .v))
 
 pub fill-spec : {M : Type 1} → statement M
-fill-spec =
-    tie.close
-    (tie.spec
-    Inv-loop
-    μ-loop
-    loop-holds
-    slice-write-part
-    add-i
-    loop-less
-    loop-again
-    same-length
-    returns)
+fill-spec = tie.close (tie.spec fill-requires same-length returns)
