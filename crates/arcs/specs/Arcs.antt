@@ -10,7 +10,7 @@ use Rattle.text.specs.Numerals.{decimal}
 use Rattle.lines.specs.Line.{numberText}
 use Rattle.pages.specs.Page.{ascii, Text, together}
 
--- the radius of a track's ring, and how long its line is: twice pi is 710 / 113, to six places
+-- the radius of a track's ring, and how long its line is: 710 / 113 is twice pi, but for less than a millionth
 abbrev pub radiusOf : ℕ → ℕ
 radiusOf track = 800 * (50 - track)
 
