@@ -37,7 +37,7 @@ fn decode_copy(ring: &[u8], place: usize, code: &mut [u8], out: &mut [u8]) -> bo
     ensures { λ r. ⌜ CopyDecoded (now (ring .entry)) place (now (code .entry)) (now (out .entry)) (now (code .exit)) (now (out .exit)) r ⌝ }
 {
     ring::read_circular_bytes(ring, place, code);
-    let read = blocks::decode_gcr_block(code, out);
+    let read = decoding::decode_gcr_block(code, out);
     match read {
         Coded::Written(count) => true,
         Coded::Refused(number) => false,

@@ -9,14 +9,14 @@ use borrow.Author.Needs.{needs}
 use Rattle.base.specs.Bits.{bitIn}
 use Rattle.gcr.specs.Places.{decodeAt}
 use Rattle.gcr.specs.declared.Decoded4.{Decoded4}
 use Rattle.blocks.specs.Answers.{bytesIn}
 use Rattle.blocks.proofs.BlockLaws.{no-bytes, bytes-next}
-use Rattle.blocks.proofs.decode_groups.Statement.{statement}
-use Rattle.blocks.proofs.decode_groups.Tie as tie
-use Rattle.blocks.proofs.decode_groups.Reads as reads
-use Rattle.blocks.proofs.decode_groups.Lts as lts
-use Rattle.blocks.proofs.decode_at.Reads as decode-at-reads
-use Rattle.blocks.proofs.put_four.Reads as put-four-reads
+use Rattle.decoding.proofs.decode_groups.Statement.{statement}
+use Rattle.decoding.proofs.decode_groups.Tie as tie
+use Rattle.decoding.proofs.decode_groups.Reads as reads
+use Rattle.decoding.proofs.decode_groups.Lts as lts
+use Rattle.decoding.proofs.decode_at.Reads as decode-at-reads
+use Rattle.decoding.proofs.put_four.Reads as put-four-reads
 
 abbrev Inv-loop : tie.InvT-loop
 Inv-loop code out₀ n i₀ out i = (i ≤ n) × (length out ≡ length out₀) × (out ≡ sets out₀ 0 (bytesIn (decodeAt (bitIn code) 0 (4 * i))))

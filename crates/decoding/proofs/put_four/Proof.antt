@@ -3,10 +3,10 @@ use lib.ListN.{length-set}
 use native.Mathlib.Omega.{arith}
 use Rattle.base.proofs.InRow.{stored}
 use borrow.Author.Needs.{needs}
-use Rattle.blocks.proofs.put_four.Statement.{statement}
-use Rattle.blocks.proofs.put_four.Tie as tie
-use Rattle.blocks.proofs.put_four.Reads as reads
-use Rattle.blocks.proofs.put_four.Lts as lts
+use Rattle.decoding.proofs.put_four.Statement.{statement}
+use Rattle.decoding.proofs.put_four.Tie as tie
+use Rattle.decoding.proofs.put_four.Reads as reads
+use Rattle.decoding.proofs.put_four.Lts as lts
 
 -- src/lib.rt:229:15
 array-read-out : tie.Need-array-read-out

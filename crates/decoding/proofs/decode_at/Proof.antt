@@ -6,10 +6,10 @@ use Rattle.base.proofs.InRow.{window-is}
 use Rattle.gcr.specs.Groups.{decodeGroup}
 use Rattle.gcr.specs.Answers.{answer4}
 use borrow.Author.Needs.{needs}
-use Rattle.blocks.proofs.decode_at.Statement.{statement}
-use Rattle.blocks.proofs.decode_at.Tie as tie
-use Rattle.blocks.proofs.decode_at.Reads as reads
-use Rattle.blocks.proofs.decode_at.Lts as lts
+use Rattle.decoding.proofs.decode_at.Statement.{statement}
+use Rattle.decoding.proofs.decode_at.Tie as tie
+use Rattle.decoding.proofs.decode_at.Reads as reads
+use Rattle.decoding.proofs.decode_at.Lts as lts
 use Rattle.gcr.proofs.decode_group.Reads as decode-group-reads
 
 -- src/lib.rt:110:9

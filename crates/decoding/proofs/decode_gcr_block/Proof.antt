@@ -2,14 +2,14 @@ use mathlib.Core.Path.{sym, _∙_}
 use denote.Ref.{now}
 use native.Mathlib.Omega.{arith}
 use borrow.Author.Tests.{not-true, not-false}
 use Rattle.blocks.proofs.BlockLaws.{decode-refused, decode-wrong, decode-done}
 use borrow.Author.Needs.{needs}
-use Rattle.blocks.proofs.decode_gcr_block.Statement.{statement}
-use Rattle.blocks.proofs.decode_gcr_block.Tie as tie
-use Rattle.blocks.proofs.decode_gcr_block.Reads as reads
-use Rattle.blocks.proofs.decode_gcr_block.Lts as lts
-use Rattle.blocks.proofs.decode_groups.Reads as decode-groups-reads
-use Rattle.blocks.proofs.legal_groups.Reads as legal-groups-reads
+use Rattle.decoding.proofs.decode_gcr_block.Statement.{statement}
+use Rattle.decoding.proofs.decode_gcr_block.Tie as tie
+use Rattle.decoding.proofs.decode_gcr_block.Reads as reads
+use Rattle.decoding.proofs.decode_gcr_block.Lts as lts
+use Rattle.decoding.proofs.decode_groups.Reads as decode-groups-reads
+use Rattle.decoding.proofs.legal_groups.Reads as legal-groups-reads
 
 -- src/lib.rt:167:9
 returns : tie.Need-returns

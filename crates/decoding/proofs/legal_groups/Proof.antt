@@ -8,13 +8,13 @@ use borrow.Author.Tests.{not-true, not-false}
 use Rattle.base.specs.Bits.{bitIn}
 use Rattle.gcr.specs.Places.{decodeAt}
 use Rattle.gcr.specs.declared.Decoded4.{Decoded4}
 use Rattle.blocks.specs.Answers.{isReadable}
 use Rattle.blocks.proofs.BlockLaws.{none-yet, readable-next, readable-stop}
-use Rattle.blocks.proofs.legal_groups.Statement.{statement}
-use Rattle.blocks.proofs.legal_groups.Tie as tie
-use Rattle.blocks.proofs.legal_groups.Reads as reads
-use Rattle.blocks.proofs.legal_groups.Lts as lts
-use Rattle.blocks.proofs.decode_at.Reads as decode-at-reads
+use Rattle.decoding.proofs.legal_groups.Statement.{statement}
+use Rattle.decoding.proofs.legal_groups.Tie as tie
+use Rattle.decoding.proofs.legal_groups.Reads as reads
+use Rattle.decoding.proofs.legal_groups.Lts as lts
+use Rattle.decoding.proofs.decode_at.Reads as decode-at-reads
 
 abbrev Inv-loop : tie.InvT-loop
 Inv-loop code n i₀ i = (i ≤ n) × (isReadable (decodeAt (bitIn code) 0 (4 * i)) ≡ true)
