@@ -7,7 +7,7 @@
  *
  * Build and link (x86-64 Linux):
  *
- *     rt staticlib fielbmaru                                    # proves it, and writes target/staticlib/libfielbmaru.a
+ *     bin/library                                               # proves it, and writes target/staticlib/libfielbmaru.a
  *     gcc -I include mine.c target/staticlib/libfielbmaru.a
  *
  * ANSWERS. Each function but fielbmaru_orbit answers 0 when it is done, or a refusal number. Refused, nothing that was lent has

@@ -7,7 +7,7 @@
 //! Build and link with no cargo (x86-64 Linux):
 //!
 //! ```text
-//! rt staticlib fielbmaru
+//! bin/library
 //! rustc --edition 2021 -L native=target/staticlib mine.rs          (mine.rs says: mod fielbmaru;)
 //! ```
 //!

@@ -1,4 +1,4 @@
-// The proved library's functions, as crates/fielbmaru exports them: a part is a pointer and a length.
+// The proved library's functions, as crates/fielbmaru_* export them: a part is a pointer and a length.
 
 extern "C" {
     fn fielbmaru_build_track(
