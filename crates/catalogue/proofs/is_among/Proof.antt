@@ -1,12 +1,12 @@
-use Rattle.nib.proofs.Cataloguing.{among-none, among-here, among-on}
-use Rattle.nib.specs.Catalogue.{among}
+use Rattle.catalogue.proofs.Cataloguing.{among-none, among-here, among-on}
+use Rattle.catalogue.specs.Catalogue.{among}
 use borrow.Author.Needs.{needs}
 use Prim.Native.Nat.{_≤_}
 use mathlib.Core.Path.{_≡_, refl, sym, _∙_}
 use native.Mathlib.Omega.{arith}
 use denote.Ref.{now}
-use Rattle.nib.proofs.catalogue.is_among.Statement.{statement}
-use Rattle.nib.proofs.catalogue.is_among.Tie as tie
+use Rattle.catalogue.proofs.is_among.Statement.{statement}
+use Rattle.catalogue.proofs.is_among.Tie as tie
 
 abbrev Inv-loop : tie.InvT-loop
 Inv-loop image code n k₀ k = (k ≤ n) × (among image code k ≡ among image code n)

@@ -1,12 +1,12 @@
-use Rattle.nib.proofs.Cataloguing.{fault-none, fault-here, fault-on, faulty-low, faulty-high, faulty-again}
-use Rattle.nib.specs.Catalogue.{anyFaulty}
+use Rattle.catalogue.proofs.Cataloguing.{fault-none, fault-here, fault-on, faulty-low, faulty-high, faulty-again}
+use Rattle.catalogue.specs.Catalogue.{anyFaulty}
 use borrow.Author.Needs.{needs}
 use Prim.Native.Nat.{_-_, _≤_}
 use mathlib.Core.Path.{_≡_, refl, sym, _∙_}
 use native.Mathlib.Omega.{arith}
 use denote.Ref.{now}
-use Rattle.nib.proofs.catalogue.any_faulty.Statement.{statement}
-use Rattle.nib.proofs.catalogue.any_faulty.Tie as tie
+use Rattle.catalogue.proofs.any_faulty.Statement.{statement}
+use Rattle.catalogue.proofs.any_faulty.Tie as tie
 
 abbrev Inv-loop : tie.InvT-loop
 Inv-loop image n k₀ k = (k ≤ n) × (anyFaulty image k ≡ anyFaulty image n)

@@ -1,9 +1,9 @@
-use Rattle.nib.proofs.Cataloguing.{nib-short, nib-signed}
+use Rattle.catalogue.proofs.Cataloguing.{nib-short, nib-signed}
 use native.Mathlib.Omega.{arith}
 use denote.Ref.{now}
 use borrow.Author.Needs.{needs}
-use Rattle.nib.proofs.catalogue.is_nib.Statement.{statement}
-use Rattle.nib.proofs.catalogue.is_nib.Tie as tie
+use Rattle.catalogue.proofs.is_nib.Statement.{statement}
+use Rattle.catalogue.proofs.is_nib.Tie as tie
 
 returns : tie.Need-returns
 returns c = nib-short (c .before .before .args .image .now) (c .if1 .taken)

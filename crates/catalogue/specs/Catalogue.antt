@@ -8,10 +8,10 @@ use lib.ListN.{length, getD, take, drop}
 use Rattle.base.specs.Choice.{pick}
 use Rattle.base.specs.Bytes.{sameBytes}
 use Rattle.base.specs.Refusals.{wrongImage, wrongEntries}
-use Rattle.nib.specs.declared.Pairs.{Pairs}
-use Rattle.nib.specs.declared.Pairs.the-variants.{Count, Refused}
-use Rattle.nib.specs.declared.Entry.{Entry}
-use Rattle.nib.specs.declared.Entry.the-variants.{Absent, At}
+use Rattle.catalogue.specs.declared.Pairs.{Pairs}
+use Rattle.catalogue.specs.declared.Pairs.the-variants.{Count, Refused}
+use Rattle.catalogue.specs.declared.Entry.{Entry}
+use Rattle.catalogue.specs.declared.Entry.the-variants.{Absent, At}
 
 -- MNIB-1541-RAW
 abbrev pub signature : List ℕ

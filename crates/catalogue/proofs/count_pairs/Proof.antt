@@ -1,12 +1,12 @@
-use Rattle.nib.proofs.Cataloguing.{pairs-start, pairs-over, pairs-end, pairs-turn}
-use Rattle.nib.specs.Catalogue.{pairsFrom, pairs}
+use Rattle.catalogue.proofs.Cataloguing.{pairs-start, pairs-over, pairs-end, pairs-turn}
+use Rattle.catalogue.specs.Catalogue.{pairsFrom, pairs}
 use borrow.Author.Needs.{needs}
 use Prim.Native.Nat.{_+_, _-_, _≤_}
 use mathlib.Core.Path.{_≡_}
 use native.Mathlib.Omega.{arith}
 use denote.Ref.{now}
-use Rattle.nib.proofs.catalogue.count_pairs.Statement.{statement}
-use Rattle.nib.proofs.catalogue.count_pairs.Tie as tie
+use Rattle.catalogue.proofs.count_pairs.Statement.{statement}
+use Rattle.catalogue.proofs.count_pairs.Tie as tie
 
 abbrev Inv-loop : tie.InvT-loop
 Inv-loop image k₀ k = (k ≤ 120) × (k + pairsFrom image (120 - k) k ≡ pairs image)

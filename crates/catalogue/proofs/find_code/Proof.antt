@@ -1,12 +1,12 @@
-use Rattle.nib.proofs.Cataloguing.{place-none, place-here, place-on}
-use Rattle.nib.specs.Catalogue.{placeOf}
+use Rattle.catalogue.proofs.Cataloguing.{place-none, place-here, place-on}
+use Rattle.catalogue.specs.Catalogue.{placeOf}
 use borrow.Author.Needs.{needs}
 use Prim.Native.Nat.{_≤_}
 use mathlib.Core.Path.{_≡_, refl, sym, _∙_}
 use native.Mathlib.Omega.{arith}
 use denote.Ref.{now}
-use Rattle.nib.proofs.catalogue.find_code.Statement.{statement}
-use Rattle.nib.proofs.catalogue.find_code.Tie as tie
+use Rattle.catalogue.proofs.find_code.Statement.{statement}
+use Rattle.catalogue.proofs.find_code.Tie as tie
 
 abbrev Inv-loop : tie.InvT-loop
 Inv-loop image code n k₀ k = (k ≤ n) × (placeOf image code k ≡ placeOf image code n)

@@ -1,10 +1,21 @@
 // The catalogue of a NIB file: pairs of a code, which is a slot plus 2, and a zone.
-use super::Entry;
-use super::Pairs;
 ghost use mathlib.Core.Path.{_≡_};
 ghost use Prim.Native.Nat.{_≤_};
 ghost use lib.ListN.{length};
-ghost use Rattle.nib.specs.Catalogue.{isNib, pairs, among, anyFaulty, catalogueOf, placeOf};
+ghost use Rattle.catalogue.specs.Catalogue.{isNib, pairs, among, anyFaulty, catalogueOf, placeOf};
+
+// The number of pairs in a file's catalogue, or the refusal's number.
+pub enum Pairs {
+    Count(usize),
+    Refused(u8),
+}
+
+// Which pair of the catalogue is a slot's, or the refusal's number.
+pub enum Entry {
+    At(usize),
+    Absent,
+    Refused(u8),
+}
 
 fn is_nib(image: &[u8]) -> bool
     ensures { λ r. ⌜ r ≡ isNib (now (image .entry)) ⌝ }

@@ -11,11 +11,11 @@ use borrow.Author.Tests.{eq-eqb, ne-eqb, lt-ltb, le-ltb, le-leb, lt-leb, leb-tru
 use Rattle.base.specs.Choice.{pick}
 use Rattle.base.specs.Bytes.{sameBytes}
 use Rattle.base.specs.Refusals.{wrongImage, wrongEntries}
-use Rattle.nib.specs.Catalogue.{signature, isNib, codeAt, pairsFrom, pairs, among}
-use Rattle.nib.specs.Catalogue.{faulty, anyFaulty, catalogueRight, catalogueOf, placeOf}
-use Rattle.nib.specs.declared.Pairs.the-variants.{Count, Refused}
-use Rattle.nib.specs.declared.Entry.{Entry}
-use Rattle.nib.specs.declared.Entry.the-variants.{Absent, At}
+use Rattle.catalogue.specs.Catalogue.{signature, isNib, codeAt, pairsFrom, pairs, among}
+use Rattle.catalogue.specs.Catalogue.{faulty, anyFaulty, catalogueRight, catalogueOf, placeOf}
+use Rattle.catalogue.specs.declared.Pairs.the-variants.{Count, Refused}
+use Rattle.catalogue.specs.declared.Entry.{Entry}
+use Rattle.catalogue.specs.declared.Entry.the-variants.{Absent, At}
 
 -- ---- loops that count down
 

@@ -1,5 +1,5 @@
-use Rattle.nib.proofs.Cataloguing.{nib-long, file-other, file-empty, file-faulty, file-cut, file-good}
-use Rattle.nib.specs.Catalogue.{isNib}
+use Rattle.catalogue.proofs.Cataloguing.{nib-long, file-other, file-empty, file-faulty, file-cut, file-good}
+use Rattle.catalogue.specs.Catalogue.{isNib}
 use Prim.Native.Nat.{_≤_}
 use borrow.Author.Tests.{not-true, not-false}
 use mathlib.Core.Path.{_≡_, sym, _∙_}
@@ -7,8 +7,8 @@ use mathlib.Core.Bool.{true}
 use denote.Ref.{now}
 use lib.ListN.{length}
 use borrow.Author.Needs.{needs}
-use Rattle.nib.proofs.catalogue.read_catalogue.Statement.{statement}
-use Rattle.nib.proofs.catalogue.read_catalogue.Tie as tie
+use Rattle.catalogue.proofs.read_catalogue.Statement.{statement}
+use Rattle.catalogue.proofs.read_catalogue.Tie as tie
 
 -- past the first test it is a NIB file
 signed : (c : tie.Else1) → isNib (c .before .before .before .args .image .now) ≡ true
