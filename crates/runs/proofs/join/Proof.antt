@@ -1,11 +1,11 @@
 use native.Mathlib.Omega.{arith}
 use lib.Pow.{pow-pos}
-use Rattle.ring.proofs.WholeBytes.{one-shifted, join-is, join-lt}
+use Rattle.runs.proofs.WholeBytes.{one-shifted, join-is, join-lt}
 use borrow.Author.Needs.{needs}
-use Rattle.ring.proofs.join.Statement.{statement}
-use Rattle.ring.proofs.join.Tie as tie
-use Rattle.ring.proofs.join.Reads as reads
-use Rattle.ring.proofs.join.Lts as lts
+use Rattle.runs.proofs.join.Statement.{statement}
+use Rattle.runs.proofs.join.Tie as tie
+use Rattle.runs.proofs.join.Reads as reads
+use Rattle.runs.proofs.join.Lts as lts
 
 -- src/lib.rt:87:25
 cast-mask : tie.Need-cast-mask

@@ -3,14 +3,14 @@ use mathlib.Core.Path.{_∙_}
 use native.Mathlib.Omega.{arith}
 use lib.Bits.{bitOr, and-mask}
 use lib.ListN.{getD}
 use Rattle.ring.proofs.RingLaws.{Bytes}
-use Rattle.ring.proofs.WholeBytes.{pair-is, byte-across}
+use Rattle.runs.proofs.WholeBytes.{pair-is, byte-across}
 use borrow.Author.Needs.{needs}
-use Rattle.ring.proofs.read_byte.Statement.{statement}
-use Rattle.ring.proofs.read_byte.Tie as tie
-use Rattle.ring.proofs.read_byte.Reads as reads
-use Rattle.ring.proofs.read_byte.Lts as lts
-use Rattle.ring.proofs.wrap.Reads as wrap-reads
+use Rattle.runs.proofs.read_byte.Statement.{statement}
+use Rattle.runs.proofs.read_byte.Tie as tie
+use Rattle.runs.proofs.read_byte.Reads as reads
+use Rattle.runs.proofs.read_byte.Lts as lts
+use Rattle.runs.proofs.wrap.Reads as wrap-reads
 
 -- src/lib.rt:62:21
 add-wrap : tie.Need-add-wrap

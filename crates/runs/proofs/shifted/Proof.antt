@@ -1,10 +1,10 @@
 use native.Mathlib.Omega.{arith}
-use Rattle.ring.proofs.WholeBytes.{shifted-is}
+use Rattle.runs.proofs.WholeBytes.{shifted-is}
 use borrow.Author.Needs.{needs}
-use Rattle.ring.proofs.shifted.Statement.{statement}
-use Rattle.ring.proofs.shifted.Tie as tie
-use Rattle.ring.proofs.shifted.Reads as reads
-use Rattle.ring.proofs.shifted.Lts as lts
+use Rattle.runs.proofs.shifted.Statement.{statement}
+use Rattle.runs.proofs.shifted.Tie as tie
+use Rattle.runs.proofs.shifted.Reads as reads
+use Rattle.runs.proofs.shifted.Lts as lts
 
 -- src/lib.rt:97:24
 cast-result : tie.Need-cast-result

@@ -1,13 +1,13 @@
 use native.Mathlib.Omega.{arith}
-use Rattle.ring.proofs.WholeBytes.{byte-written}
+use Rattle.runs.proofs.WholeBytes.{byte-written}
 use borrow.Author.Needs.{needs}
-use Rattle.ring.proofs.write_byte.Statement.{statement}
-use Rattle.ring.proofs.write_byte.Tie as tie
-use Rattle.ring.proofs.write_byte.Reads as reads
-use Rattle.ring.proofs.write_byte.Lts as lts
-use Rattle.ring.proofs.join.Reads as join-reads
-use Rattle.ring.proofs.shifted.Reads as shifted-reads
-use Rattle.ring.proofs.wrap.Reads as wrap-reads
+use Rattle.runs.proofs.write_byte.Statement.{statement}
+use Rattle.runs.proofs.write_byte.Tie as tie
+use Rattle.runs.proofs.write_byte.Reads as reads
+use Rattle.runs.proofs.write_byte.Lts as lts
+use Rattle.runs.proofs.join.Reads as join-reads
+use Rattle.runs.proofs.shifted.Reads as shifted-reads
+use Rattle.runs.proofs.wrap.Reads as wrap-reads
 
 -- src/lib.rt:106:21
 add-wrap : tie.Need-add-wrap

@@ -2,10 +2,10 @@ use Prim.Native.Nat.{ℕ, _%_, _<_}
 use mathlib.Core.Path.{sym, ap, _∙_}
 use native.Mathlib.Nat.{mod-self, mod-eq-of-lt}
 use native.Mathlib.Omega.{arith}
-use Rattle.ring.proofs.wrap.Statement.{statement}
-use Rattle.ring.proofs.wrap.Tie as tie
-use Rattle.ring.proofs.wrap.Reads as reads
-use Rattle.ring.proofs.wrap.Lts as lts
+use Rattle.runs.proofs.wrap.Statement.{statement}
+use Rattle.runs.proofs.wrap.Tie as tie
+use Rattle.runs.proofs.wrap.Reads as reads
+use Rattle.runs.proofs.wrap.Lts as lts
 
 -- src/lib.rt:111:9
 returns : tie.Need-returns
