@@ -1,9 +1,9 @@
 // The slots of a NIB file, read from standard input: a line for each. A refusal goes to standard error.
+use catalogue::Pairs;
 use clearing::Outcome;
 use libc::STDERR_FILENO;
 use libc::STDIN_FILENO;
 use libc::STDOUT_FILENO;
-use nib::Pairs;
 
 fn refuse(number: u8) {
     let mut line = [0u8; 128];
@@ -24,7 +24,7 @@ fn put_lines(file: &[u8]) {
 }
 
 fn list(file: &[u8]) {
-    let pairs = nib::catalogue::read_catalogue(file);
+    let pairs = catalogue::read_catalogue(file);
     match pairs {
         Pairs::Count(_) => put_lines(file),
         Pairs::Refused(number) => refuse(number),

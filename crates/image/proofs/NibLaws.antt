@@ -4,9 +4,9 @@ use mathlib.Core.Path.{_≡_}
 use mathlib.Core.Bool.{true}
 use mathlib.Core.List.{List}
 use Prim.Native.Nat.{ℕ, _+_, _*_, _≤_}
-use Rattle.nib.specs.declared.Pairs.the-variants.{Count, Refused as NoCatalogue}
-use Rattle.nib.specs.declared.Entry.the-variants.{At as Pair, Absent as NoPair, Refused as NoEntry}
-use Rattle.nib.specs.Catalogue.{catalogueOf, placeOf}
+use Rattle.catalogue.specs.declared.Pairs.the-variants.{Count, Refused as NoCatalogue}
+use Rattle.catalogue.specs.declared.Entry.the-variants.{At as Pair, Absent as NoPair, Refused as NoEntry}
+use Rattle.catalogue.specs.Catalogue.{catalogueOf, placeOf}
 use Rattle.nib.proofs.Slotting.{entry-is}
 use Rattle.image.specs.declared.Place.{Place}
 use Rattle.image.specs.declared.Place.the-variants.{At, Absent}

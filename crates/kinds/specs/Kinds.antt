@@ -7,9 +7,9 @@ use Rattle.base.specs.Refusals.{wrongImage}
 use Rattle.geometry.specs.declared.TrackCount.{TrackCount}
 use Rattle.geometry.specs.declared.TrackCount.the-variants.{Tracks, NoD64}
 use Rattle.geometry.specs.D64.{tracksOf}
-use Rattle.nib.specs.declared.Pairs.{Pairs}
-use Rattle.nib.specs.declared.Pairs.the-variants.{Count, Refused as NoCatalogue}
-use Rattle.nib.specs.Catalogue.{isNib, catalogueOf}
+use Rattle.catalogue.specs.declared.Pairs.{Pairs}
+use Rattle.catalogue.specs.declared.Pairs.the-variants.{Count, Refused as NoCatalogue}
+use Rattle.catalogue.specs.Catalogue.{isNib, catalogueOf}
 use Rattle.image.specs.G64.{isG64, g64Table}
 use Rattle.kinds.specs.declared.Kind.{Kind}
 use Rattle.kinds.specs.declared.Kind.the-variants.{D64, G64, Nib, Unknown}

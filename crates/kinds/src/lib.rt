@@ -1,11 +1,11 @@
 // Images of any kind: what kind one is, and what keeps it from being read.
 ghost use mathlib.Core.Path.{_≡_};
 ghost use Prim.Native.Nat.{_<_};
-ghost use Rattle.nib.specs.Catalogue.{isNib, catalogueOf};
+ghost use Rattle.catalogue.specs.Catalogue.{isNib, catalogueOf};
 ghost use Rattle.image.specs.G64.{isG64};
 ghost use Rattle.kinds.specs.Kinds.{kindOf, catalogueFault, faultOf};
+use catalogue::Pairs;
 use geometry::TrackCount;
-use nib::Pairs;
 
 // The kinds of image; a D64 with its number of tracks.
 pub enum Kind {
@@ -52,7 +52,7 @@ pub fn image_kind(image: &[u8]) -> Kind
 fn catalogue_fault(image: &[u8]) -> u8
     ensures { λ r. ⌜ r ≡ catalogueFault (catalogueOf (now (image .entry))) ⌝ }
 {
-    let pairs = nib::catalogue::read_catalogue(image);
+    let pairs = catalogue::read_catalogue(image);
     match pairs {
         Pairs::Count(_) => 0,
         Pairs::Refused(number) => number,

@@ -1,3 +1,2 @@
-pub mod Cataloguing
 pub mod Slotting
 pub mod Longer

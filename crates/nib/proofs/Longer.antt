@@ -9,15 +9,15 @@ use lib.ListN.{length, getD, take, drop, length-append, length-drop, List·getD-
 use lib.Seq.{drop-append-le, take-append-le}
 use borrow.Author.Tests.{le-leb}
 use Rattle.orbit.specs.Orbit.{chosen, recovered}
-use Rattle.nib.specs.Catalogue.{isNib, codeAt, zoneAt, windowStart, windowAt, pairsFrom, pairs}
-use Rattle.nib.specs.Catalogue.{among, anyFaulty, catalogueRight, catalogueOf, placeOf}
+use Rattle.catalogue.specs.Catalogue.{isNib, codeAt, zoneAt, windowStart, windowAt, pairsFrom, pairs}
+use Rattle.catalogue.specs.Catalogue.{among, anyFaulty, catalogueRight, catalogueOf, placeOf}
 use Rattle.nib.specs.Slots.{entryOf, ringBy, ringOf, zoneBy, zoneOf, slotBy, slotOf}
-use Rattle.nib.specs.declared.Pairs.the-variants.{Count}
-use Rattle.nib.specs.declared.Entry.{Entry}
-use Rattle.nib.specs.declared.Entry.the-variants.{At, Absent, Refused}
+use Rattle.catalogue.specs.declared.Pairs.the-variants.{Count}
+use Rattle.catalogue.specs.declared.Entry.{Entry}
+use Rattle.catalogue.specs.declared.Entry.the-variants.{At, Absent, Refused}
 use Rattle.nib.specs.declared.Zone.the-variants.{Is}
 use Rattle.nib.specs.declared.NibSlot.the-variants.{Ring}
-use Rattle.nib.proofs.Cataloguing.{counted}
+use Rattle.catalogue.proofs.Cataloguing.{counted}
 use Rattle.nib.proofs.Slotting.{Held, held}
 
 module _ (file t : List ℕ) (h : 256 ≤ length file) where

@@ -1,2 +1,1 @@
-pub mod Catalogue
 pub mod Slots

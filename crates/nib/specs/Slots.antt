@@ -5,11 +5,11 @@ use lib.Dec.{ltb}
 use Rattle.base.specs.Choice.{pick}
 use Rattle.base.specs.Refusals.{wrongEntries}
 use Rattle.orbit.specs.Orbit.{chosen, recovered}
-use Rattle.nib.specs.Catalogue.{catalogueOf, placeOf, zoneAt, windowAt, windowStart}
-use Rattle.nib.specs.declared.Pairs.{Pairs}
-use Rattle.nib.specs.declared.Pairs.the-variants.{Count, Refused as NoCatalogue}
-use Rattle.nib.specs.declared.Entry.{Entry}
-use Rattle.nib.specs.declared.Entry.the-variants.{At, Absent, Refused}
+use Rattle.catalogue.specs.Catalogue.{catalogueOf, placeOf, zoneAt, windowAt, windowStart}
+use Rattle.catalogue.specs.declared.Pairs.{Pairs}
+use Rattle.catalogue.specs.declared.Pairs.the-variants.{Count, Refused as NoCatalogue}
+use Rattle.catalogue.specs.declared.Entry.{Entry}
+use Rattle.catalogue.specs.declared.Entry.the-variants.{At, Absent, Refused}
 use Rattle.nib.specs.declared.Zone.{Zone}
 use Rattle.nib.specs.declared.Zone.the-variants.{Is, Refused as NoZone}
 use Rattle.nib.specs.declared.NibSlot.{NibSlot}

@@ -1,21 +1,8 @@
-// NIB files: the ring and the zone of a slot. `catalogue` reads the list of the captures.
-pub mod catalogue;
-
+// NIB files: the ring and the zone of a slot. The crate `catalogue` reads the list of the captures.
+use catalogue::Entry;
+use catalogue::Pairs;
 ghost use mathlib.Core.Path.{_≡_};
 ghost use Rattle.nib.specs.Slots.{entryOf, ringOf, zoneOf, slotOf};
-
-// The number of pairs in a file's catalogue, or the refusal's number.
-pub enum Pairs {
-    Count(usize),
-    Refused(u8),
-}
-
-// Which pair of the catalogue is a slot's, or the refusal's number.
-pub enum Entry {
-    At(usize),
-    Absent,
-    Refused(u8),
-}
 
 // The zone of a slot, or the refusal's number.
 pub enum Zone {

@@ -8,7 +8,7 @@ use lib.ListN.{length, getD, take, drop, replicate}
 use Rattle.base.specs.Choice.{pick}
 use Rattle.base.specs.Lists.{tab, joined}
 use Rattle.base.specs.Refusals.{wrongSum, ringTooLong, noRing, noRoom}
-use Rattle.nib.specs.Catalogue.{signature, windowStart}
+use Rattle.catalogue.specs.Catalogue.{signature, windowStart}
 use Rattle.nibfile.specs.declared.Encoded.{Encoded}
 use Rattle.nibfile.specs.declared.Encoded.the-variants.{Written, Refused}
 

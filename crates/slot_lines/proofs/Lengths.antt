@@ -8,11 +8,11 @@ use lib.ListN.{length, take, drop, length-append, length-take}
 use Rattle.pages.specs.Page.{ascii, Text, allOf}
 use Rattle.pages.proofs.PageLaws.{append-long, Within}
 use Rattle.base.specs.Choice.{pick}
-use Rattle.nib.specs.declared.Entry.{Entry}
-use Rattle.nib.specs.declared.Entry.the-variants.{At, Absent, Refused as NoEntry}
+use Rattle.catalogue.specs.declared.Entry.{Entry}
+use Rattle.catalogue.specs.declared.Entry.the-variants.{At, Absent, Refused as NoEntry}
 use Rattle.nib.specs.declared.NibSlot.{NibSlot}
 use Rattle.nib.specs.declared.NibSlot.the-variants.{Ring, Empty, Refused}
-use Rattle.nib.specs.Catalogue.{zoneAt}
+use Rattle.catalogue.specs.Catalogue.{zoneAt}
 use Rattle.nib.specs.Slots.{entryOf, slotBy, slotOf}
 use Rattle.base.proofs.Picks.{pick-ind}
 use Rattle.text.proofs.DecimalLaws.{decimal-width}

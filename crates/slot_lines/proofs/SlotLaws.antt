@@ -16,13 +16,13 @@ use Rattle.base.specs.Refusals.{wrongEntries}
 use Rattle.orbit.specs.Orbit.{chosen}
 use Rattle.orbit.proofs.Spans.{limits}
 use Rattle.orbit.proofs.Best.{chosen-within}
-use Rattle.nib.specs.declared.Pairs.{Pairs}
-use Rattle.nib.specs.declared.Pairs.the-variants.{Count, Refused as NoCatalogue}
-use Rattle.nib.specs.declared.Entry.{Entry}
-use Rattle.nib.specs.declared.Entry.the-variants.{At, Absent, Refused as NoEntry}
+use Rattle.catalogue.specs.declared.Pairs.{Pairs}
+use Rattle.catalogue.specs.declared.Pairs.the-variants.{Count, Refused as NoCatalogue}
+use Rattle.catalogue.specs.declared.Entry.{Entry}
+use Rattle.catalogue.specs.declared.Entry.the-variants.{At, Absent, Refused as NoEntry}
 use Rattle.nib.specs.declared.NibSlot.{NibSlot}
 use Rattle.nib.specs.declared.NibSlot.the-variants.{Ring}
-use Rattle.nib.specs.Catalogue.{catalogueOf, placeOf, zoneAt, windowAt}
+use Rattle.catalogue.specs.Catalogue.{catalogueOf, placeOf, zoneAt, windowAt}
 use Rattle.nib.specs.Slots.{entryIn, entryOf, slotBy, slotOf}
 use Rattle.nib.proofs.Slotting.{held}
 use Rattle.slot_span.specs.Span.{spanText}

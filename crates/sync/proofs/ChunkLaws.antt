@@ -20,7 +20,7 @@ use Rattle.base.proofs.Tests.{both, both-l, both-r, allBelow, allBelow→, eqb-
 use Rattle.base.proofs.Gathered.{gather-lt, gather-bit}
 use Rattle.ring.specs.Bit.{bitAt}
 use Rattle.ring.proofs.RingLaws.{bit-lt}
-use Rattle.ring.proofs.WholeBytes.{byte-at}
+use Rattle.runs.proofs.WholeBytes.{byte-at}
 use Rattle.sync.specs.declared.Chunk.{Chunk}
 use Rattle.sync.specs.declared.SyncEnd.the-variants.{At}
 use Rattle.sync.specs.Sync.{run, syncFrom}

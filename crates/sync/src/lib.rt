@@ -46,6 +46,6 @@ pub fn find_sync_end(ring: &[u8], start: usize, limit: usize) -> SyncEnd
             ones = u8::trailing_zeros(!bits) as usize;
         }
         offset += width;
-        at = ring::wrap(at + width, size);
+        at = runs::wrap(at + width, size);
     }
 }

@@ -36,7 +36,7 @@ fn decode_copy(ring: &[u8], place: usize, code: &mut [u8], out: &mut [u8]) -> bo
     requires { ⌜ 4 * groupsIn (now code) ≡ length (now out) ⌝ }
     ensures { λ r. ⌜ CopyDecoded (now (ring .entry)) place (now (code .entry)) (now (out .entry)) (now (code .exit)) (now (out .exit)) r ⌝ }
 {
-    ring::read_circular_bytes(ring, place, code);
+    runs::read_circular_bytes(ring, place, code);
     let read = decoding::decode_gcr_block(code, out);
     match read {
         Coded::Written(count) => true,

@@ -1,4 +1,4 @@
-use Rattle.nib.proofs.Cataloguing.{nib-short, nib-signed}
+use Rattle.catalogue.proofs.Cataloguing.{nib-short, nib-signed}
 use native.Mathlib.Omega.{arith}
 use borrow.Author.Needs.{needs}
 use Rattle.kinds.proofs.is_nib.Statement.{statement}

@@ -1,7 +1,7 @@
-use Rattle.nib.proofs.Cataloguing.{counted}
+use Rattle.catalogue.proofs.Cataloguing.{counted}
 use Rattle.nib.proofs.Slotting.{entry-refused, entry-above, entry-is}
-use Rattle.nib.specs.declared.Pairs.the-variants.{Count}
-use Rattle.nib.specs.Catalogue.{catalogueOf}
+use Rattle.catalogue.specs.declared.Pairs.the-variants.{Count}
+use Rattle.catalogue.specs.Catalogue.{catalogueOf}
 use mathlib.Core.Path.{_≡_, sym, _∙_}
 use native.Mathlib.Omega.{arith}
 use denote.Ref.{now}
