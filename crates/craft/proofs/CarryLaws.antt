@@ -1,41 +1,29 @@
--- Rows B and T, and both buffers after a row.
+-- A block's check byte, and both buffers after a row.
 -- Assumes nothing.
-use mathlib.Core.Path.{_≡_, _∙_}
+use mathlib.Core.Path.{_≡_}
 use mathlib.Core.Logic.{_≢_, ⊎-elim, inl, inr}
 use mathlib.Core.Bool.{true, false}
-use mathlib.Core.List.{List, [], _∷_, _++_}
-use Prim.Native.Nat.{ℕ, _+_, _-_, _≤_, _<_}
-use native.Mathlib.Omega.{arith}
+use mathlib.Core.List.{List, [], _∷_}
+use Prim.Native.Nat.{ℕ, _≤_, _<_}
 use types.Run.{OneOf}
 use lib.Dec.{eqb}
-use lib.ListN.{length, take, drop}
+use lib.ListN.{length, set, take, drop}
 use Rattle.base.specs.Choice.{pick}
-use Rattle.base.specs.Refusals.{noRoom}
+use Rattle.base.specs.Lists.{xorOf}
 use Rattle.base.proofs.Tests.{leb-yes, leb-no, eqb-no}
-use Rattle.track.specs.Answers.{built}
-use Rattle.track.specs.declared.Built.{Built}
-use Rattle.track.specs.declared.Built.the-variants.{Refused}
 use Rattle.replay.specs.Rows.{changed}
 use Rattle.replay.specs.declared.Row.{Row}
-use Rattle.replay.proofs.PartLaws.{kept, done}
-use Rattle.craft.specs.Rings.{targetChanged, blockChecked}
-use Rattle.craft.specs.Tracks.{trackOf, payloadsOf, roomBuilt, targetBuilt, builtBy}
-use Rattle.craft.specs.Carried.{onRingLetter, targetAfter, sourceAfter}
+use Rattle.assembly.specs.Tracks.{targetBuilt}
+use Rattle.craft.specs.Carried.{targetChanged, checkPut, blockChecked, onRingLetter, targetAfter, sourceAfter}
 
-module _ (r : Row) (s xs : List ℕ) where
-  pub build-no : length xs < r .a + r .b → (Refused noRoom ≡ builtBy r s xs) × (xs ≡ targetBuilt r s xs)
-  unfolding builtBy
-  build-no h = (rw (leb-no (r .a + r .b) (length xs) h), kept (r .a) (r .b) (roomBuilt r s) xs h)
+module _ (xs : List ℕ) where
+  pub no-check : length xs < 258 → xs ≡ checkPut xs
+  unfolding checkPut
+  no-check h = rw (leb-no 258 (length xs) h)
 
-  pub build-yes : r .a + r .b ≤ length xs → (answer : Built) (ys : List ℕ)
-      → answer ≡ built (trackOf r) (payloadsOf r s) (take (r .a + r .b - r .a) (drop (r .a) xs))
-      → ys ≡ roomBuilt r s (take (r .a + r .b - r .a) (drop (r .a) xs))
-      → (answer ≡ builtBy r s xs)
-      × (take (r .a) xs ++ (ys ++ drop (r .a + r .b - r .a) (drop (r .a) xs)) ≡ targetBuilt r s xs)
-  unfolding builtBy
-  build-yes h answer ys e w =
-      let n : r .a + r .b - r .a ≡ r .b = omega arith in
-      (e ∙ rw (leb-yes (r .a + r .b) (length xs) h, n), done (r .a) (r .b) (roomBuilt r s) xs h ys w)
+  pub a-check : 258 ≤ length xs → (v : ℕ) → v ≡ xorOf (take 256 (drop 1 xs)) → set xs 257 v ≡ checkPut xs
+  unfolding checkPut
+  a-check h v e = rw (leb-yes 258 (length xs) h, e)
 
 -- ---- by a row's letter
 is-ring-letter : (l : ℕ) → OneOf (71 ∷ 73 ∷ 88 ∷ 90 ∷ []) l → onRingLetter l ≡ true

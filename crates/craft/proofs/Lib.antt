@@ -1,3 +1,1 @@
-pub mod RunLaws
-pub mod RingRows
 pub mod CarryLaws

@@ -2,12 +2,28 @@
 use Prim.Native.Nat.{ℕ}
 use mathlib.Core.Bool.{Bool, _||_}
 use mathlib.Core.List.{List}
-use lib.Dec.{eqb}
+use lib.Dec.{eqb, leb}
+use lib.ListN.{length, set, take, drop}
 use Rattle.base.specs.Choice.{pick}
+use Rattle.base.specs.Lists.{xorOf}
+use Rattle.replay.specs.Changes.{inPart}
 use Rattle.replay.specs.Rows.{changed}
 use Rattle.replay.specs.declared.Row.{Row}
-use Rattle.craft.specs.Rings.{targetChanged, blockChecked}
-use Rattle.craft.specs.Tracks.{targetBuilt}
+use Rattle.ringcraft.specs.Rings.{ringChanged}
+use Rattle.assembly.specs.Parts.{partOf}
+use Rattle.assembly.specs.Tracks.{targetBuilt}
+
+-- a row carried out on its part of the target, as a ring; bytes are taken from the source
+abbrev pub targetChanged : Row → List ℕ → List ℕ → List ℕ
+targetChanged r source = inPart (r .a) (r .b) (ringChanged r (partOf (r .d) (r .e) source))
+
+-- a block of bytes with its check byte
+unfoldable pub checkPut : List ℕ → List ℕ
+checkPut xs = pick (leb 258 (length xs)) (set xs 257 (xorOf (take 256 (drop 1 xs)))) xs
+
+-- row Q: the check byte of the block at `at`
+abbrev pub blockChecked : ℕ → List ℕ → List ℕ
+blockChecked at = inPart at 260 checkPut
 
 -- the letters of rows that change a ring: Z, I, X, G
 abbrev pub onRingLetter : ℕ → Bool

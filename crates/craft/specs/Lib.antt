@@ -1,3 +1,1 @@
-pub mod Rings
-pub mod Tracks
 pub mod Carried

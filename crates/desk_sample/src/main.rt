@@ -8,9 +8,9 @@ fn put_part(target: &[u8], source: &[u8], row: Row) {
     let at = row.a as usize;
     let n = row.b as usize;
     if row.f == 0 {
-        io::write_all(STDOUT_FILENO, craft::part(target, at, n));
+        io::write_all(STDOUT_FILENO, assembly::part(target, at, n));
     } else {
-        io::write_all(STDOUT_FILENO, craft::part(source, at, n));
+        io::write_all(STDOUT_FILENO, assembly::part(source, at, n));
     }
 }
 

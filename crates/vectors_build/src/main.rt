@@ -25,8 +25,8 @@ fn tell(line: &mut [u8], answer: Built) -> usize {
 // The answer, and the checksum of the whole room as it then is.
 fn build(target: &mut [u8], source: &[u8], row: Row) {
     let mut line = [0u8; 128];
-    let mut at = tell(&mut line, craft::build(target, source, row));
-    let room = craft::part(target, row.a as usize, row.b as usize);
+    let mut at = tell(&mut line, assembly::build(target, source, row));
+    let room = assembly::part(target, row.a as usize, row.b as usize);
     at = lines::sum(&mut line, at, sum::mix_all(sum::START, room));
     write(&mut line, at);
 }

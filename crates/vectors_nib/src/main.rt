@@ -62,7 +62,7 @@ fn tell_slots(line: &mut [u8], file: &[u8]) -> usize {
 }
 
 fn whole(target: &[u8], row: Row) {
-    let file = craft::part(target, row.a as usize, row.b as usize);
+    let file = assembly::part(target, row.a as usize, row.b as usize);
     let mut line = [0u8; 128];
     let at = tell_slots(&mut line, file);
     write(&mut line, at);
@@ -84,7 +84,7 @@ fn tell_slot(line: &mut [u8], file: &[u8], slot: usize) -> usize {
 }
 
 fn one_slot(target: &[u8], row: Row) {
-    let file = craft::part(target, row.a as usize, row.b as usize);
+    let file = assembly::part(target, row.a as usize, row.b as usize);
     let mut line = [0u8; 128];
     let at = tell_slot(&mut line, file, row.c as usize);
     write(&mut line, at);
@@ -109,7 +109,7 @@ fn read_lengths(lengths: &mut [u64], source: &[u8])
 {
     let mut i: usize = 0;
     while i < lengths.len() {
-        lengths[i] = length_of(craft::part(source, 209920 + 4 * i, 4));
+        lengths[i] = length_of(assembly::part(source, 209920 + 4 * i, 4));
         i += 1;
     }
 }
@@ -126,8 +126,8 @@ fn tell_encoded(line: &mut [u8], answer: Encoded) -> usize {
 
 // The answer, and the checksum of the whole room as it then is.
 fn encode_into(room: &mut [u8], source: &[u8], row: Row, lengths: &[u64]) {
-    let zones = craft::part(source, 210944, row.f as usize);
-    let rings = craft::part(source, row.c as usize, row.d as usize);
+    let zones = assembly::part(source, 210944, row.f as usize);
+    let rings = assembly::part(source, row.c as usize, row.d as usize);
     let mut line = [0u8; 128];
     let mut at = tell_encoded(&mut line, nibfile::encode_nib(lengths, zones, rings, room));
     at = lines::sum(&mut line, at, sum::mix_all(sum::START, room));

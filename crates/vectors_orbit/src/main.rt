@@ -10,7 +10,7 @@ fn write(line: &mut [u8], at: usize) {
 }
 
 fn span(target: &[u8], row: Row) {
-    let window = craft::part(target, row.a as usize, row.b as usize);
+    let window = assembly::part(target, row.a as usize, row.b as usize);
     let ring = orbit::recover_orbit(window, (row.c % 256) as u8);
     let mut line = [0u8; 128];
     let mut at = lines::words(&mut line, 0, b"span");

@@ -33,7 +33,7 @@ fn mix_record(s: u32, rows: &[u64], payloads: &[u8], i: usize) -> u32
 {
     let sector = sum::mix(s, (number_at(rows, 2 * i) % 256) as u8);
     let place = sum::mix_number(sector, number_at(rows, 2 * i + 1));
-    sum::mix_all(place, craft::part(payloads, 256 * i, 256))
+    sum::mix_all(place, assembly::part(payloads, 256 * i, 256))
 }
 
 fn records_sum(rows: &[u64], payloads: &[u8], n: usize) -> u32
@@ -79,7 +79,7 @@ fn scan_into(ring: &[u8], row: Row, rows: &mut [u64], payloads: &mut [u8]) -> Sc
 }
 
 fn scan(target: &[u8], row: Row) {
-    let ring = craft::part(target, row.a as usize, row.b as usize);
+    let ring = assembly::part(target, row.a as usize, row.b as usize);
     let mut rows = [0u64; 390];
     let mut payloads = [0u8; 49920];
     let answer = scan_into(ring, row, &mut rows, &mut payloads);
@@ -113,7 +113,7 @@ fn tell_track(line: &mut [u8], answer: TrackRead, payloads: &[u8], statuses: &[u
 }
 
 fn read(target: &[u8], row: Row) {
-    let ring = craft::part(target, row.a as usize, row.b as usize);
+    let ring = assembly::part(target, row.a as usize, row.b as usize);
     let mut payloads = [0u8; 5376];
     let mut statuses = [0u8; 21];
     let track = (row.c % 256) as u8;
@@ -129,8 +129,8 @@ fn read(target: &[u8], row: Row) {
     let at = tell_track(
         &mut line,
         answer,
-        craft::part(&payloads, 0, 256 * count),
-        craft::part(&statuses, 0, count),
+        assembly::part(&payloads, 0, 256 * count),
+        assembly::part(&statuses, 0, count),
     );
     write(&mut line, at);
 }

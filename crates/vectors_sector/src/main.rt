@@ -30,7 +30,7 @@ fn decoded(ring: &[u8], track: u8, number: u8, unique: bool) -> Sector {
 
 // One sector, by the unique rule or by the consistent one.
 fn read(target: &[u8], row: Row, unique: bool) {
-    let ring = craft::part(target, row.a as usize, row.b as usize);
+    let ring = assembly::part(target, row.a as usize, row.b as usize);
     let answer = decoded(ring, (row.c % 256) as u8, (row.d % 256) as u8, unique);
     let mut line = [0u8; 128];
     let at = tell_sector(&mut line, answer);
@@ -62,7 +62,7 @@ fn replace_in(ring: &mut [u8], track: u8, number: u8, bytes: &[u8; 256], unique:
 fn replace(target: &mut [u8], source: &[u8], row: Row, unique: bool) {
     let at = row.a as usize;
     let n = row.b as usize;
-    let part = craft::part(source, row.e as usize, 256);
+    let part = assembly::part(source, row.e as usize, 256);
     if part.len() != 256 {
         return;
     }

@@ -5,7 +5,8 @@ use mathlib.Core.Path.{ap, _∙_}
 use mathlib.Core.List.{List}
 use native.Mathlib.Omega.{arith}
 use Rattle.replay.proofs.PartLaws.{kept, done}
-use Rattle.craft.specs.Rings.{partOf, ringChanged}
+use Rattle.ringcraft.specs.Rings.{ringChanged}
+use Rattle.assembly.specs.Parts.{partOf}
 use Rattle.craft.proofs.change.Statement.{statement}
 use Rattle.craft.proofs.change.Tie as tie
 

@@ -1,7 +1,7 @@
 use borrow.Author.Needs.{needs}
 use native.Mathlib.Omega.{arith}
 use Rattle.replay.proofs.PartLaws.{kept, done}
-use Rattle.craft.specs.Rings.{checkPut}
+use Rattle.craft.specs.Carried.{checkPut}
 use Rattle.craft.proofs.check_block.Statement.{statement}
 use Rattle.craft.proofs.check_block.Tie as tie
 

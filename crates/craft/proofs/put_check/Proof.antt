@@ -1,6 +1,6 @@
 use borrow.Author.Needs.{needs}
 use native.Mathlib.Omega.{arith}
-use Rattle.craft.proofs.RingRows.{no-check, a-check}
+use Rattle.craft.proofs.CarryLaws.{no-check, a-check}
 use Rattle.craft.proofs.put_check.Statement.{statement}
 use Rattle.craft.proofs.put_check.Tie as tie
 
