@@ -1,4 +1,4 @@
--- What the walks of this crate share: a record as a row type, where row n begins, and rows by a test.
+-- What the walks over records share: a record as a row type, where row n begins, and rows by a test.
 -- Assumes nothing.
 use mathlib.Core.Path.{_≡_, refl}
 use Prim.Native.Nat.{ℕ, _<_, _^_, _*_}

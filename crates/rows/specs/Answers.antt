@@ -1,7 +1,6 @@
 -- What a scan into rows answers and leaves. It needs 195 rows, whatever it finds.
 use Prim.Native.Nat.{ℕ}
-use mathlib.Core.Bool.{true}
-use mathlib.Core.List.{List, []}
+use mathlib.Core.List.{List}
 use lib.Dec.{eqb, ltb, leb}
 use lib.ListN.{length}
 use Rattle.base.specs.Choice.{pick}
@@ -11,8 +10,7 @@ use Rattle.scan.specs.declared.Scanned.{Scanned}
 use Rattle.scan.specs.declared.Scanned.the-variants.{Records, Refused}
 use Rattle.scan.specs.Scan.{records}
 use Rattle.scan.specs.Answers.{unlessRefused}
-use Rattle.rows.specs.declared.Row.{Row}
-use Rattle.rows.specs.Rows.{noRow, laid}
+use Rattle.rows.specs.Rows.{laid}
 
 -- the number of records, or a refusal number
 unfoldable pub scannedInto : List ℕ → ℕ → ℕ → List SectorRecord → Scanned
@@ -23,15 +21,6 @@ scannedInto ring track start rows =
 unfoldable pub rowsAfter : List ℕ → ℕ → ℕ → List SectorRecord → List SectorRecord
 rowsAfter ring track start rows =
     unlessRefused (leb 195 (length rows)) ring track start (λ n. rows) (laid (records ring track start) rows)
-
--- the records of a scan, none where it is refused
-unfoldable pub recordsOrNone : List ℕ → ℕ → ℕ → List SectorRecord
-recordsOrNone ring track start = unlessRefused true ring track start (λ n. []) (records ring track start)
-
--- row n of a scan that gave this answer
-abbrev pub ofScan : Row → ℕ → Scanned → Row
-ofScan row n (Records count) = pick (ltb n count) row noRow
-ofScan row n (Refused number) = noRow
 
 -- a refusal by the numbers of rows and of ring bytes alone, or 0: no ring has more than 195 records
 abbrev pub refusalOf : ℕ → ℕ → ℕ

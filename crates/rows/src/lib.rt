@@ -1,19 +1,13 @@
-// Sector records as a lent list of structs: row n is stored and read by two thin functions, and a scan fills the rows by them.
+// Sector records as a lent list of structs: row n is stored by a thin function, and a scan fills the rows by it.
 ghost use mathlib.Core.Path.{_≡_};
 ghost use Prim.Native.Nat.{_≤_};
 ghost use lib.ListN.{length};
 ghost use Rattle.ring.specs.Bit.{IsRing};
 ghost use Rattle.scan.specs.Scan.{records};
-ghost use Rattle.rows.specs.Rows.{hasRow, stored, zeros, rowAt, aRow, noRow, laid};
-ghost use Rattle.rows.specs.Answers.{refusalOf, scannedInto, rowsAfter, ofScan, recordsOrNone};
+ghost use Rattle.rows.specs.Rows.{hasRow, stored, laid};
+ghost use Rattle.rows.specs.Answers.{refusalOf, scannedInto, rowsAfter};
 use scan::Scanned;
 use scan::SectorRecord;
-
-// A row that was asked for, if there is one; where there is none the row is zeros.
-pub struct Row {
-    pub found: bool,
-    pub row: SectorRecord,
-}
 
 // Row n becomes `row`, and the other rows stay; the answer is whether there is a row n, and where there is none all rows stay.
 pub fn store_row(rows: &mut [SectorRecord], n: usize, row: SectorRecord) -> bool
@@ -24,46 +18,6 @@ pub fn store_row(rows: &mut [SectorRecord], n: usize, row: SectorRecord) -> bool
         rows[n] = row;
     }
     inside
-}
-
-fn a_row(row: SectorRecord) -> Row
-    ensures { λ r. ⌜ r ≡ aRow row ⌝ }
-{
-    Row {
-        found: true,
-        row: row,
-    }
-}
-
-fn zero_record() -> SectorRecord
-    ensures { λ r. ⌜ r ≡ zeros ⌝ }
-{
-    SectorRecord {
-        sector: 0,
-        place: 0,
-        payload: [0u8; 256],
-    }
-}
-
-fn no_row() -> Row
-    ensures { λ r. ⌜ r ≡ noRow ⌝ }
-{
-    let row = zero_record();
-    Row {
-        found: false,
-        row: row,
-    }
-}
-
-// Row n, where there is one.
-pub fn read_row(rows: &[SectorRecord], n: usize) -> Row
-    ensures { λ r. ⌜ r ≡ rowAt (now (rows .entry)) n ⌝ }
-{
-    if n < rows.len() {
-        a_row(rows[n])
-    } else {
-        no_row()
-    }
 }
 
 // The refusal of a scan of a ring of so many bytes into so many rows, in the order of refusals; 0 where there is none.
@@ -117,28 +71,4 @@ pub fn scan_into_rows(
     } else {
         Scanned::Refused(number)
     }
-}
-
-// Row n of a scan that gave this answer: no row where the scan was refused, or past its last record.
-fn of_scan(row: Row, n: usize, answer: Scanned) -> Row
-    ensures { λ r. ⌜ r ≡ ofScan row n answer ⌝ }
-{
-    let Scanned::Records(count) = answer else {
-        return no_row();
-    };
-    if n < count {
-        return row;
-    }
-    no_row()
-}
-
-// Record n of a scan, where there is one: for callers that hold no list of records.
-pub fn nth_record(ring: &[u8], track: u8, start_bit: usize, n: usize) -> Row
-    ensures { λ r. ⌜ r ≡ rowAt (recordsOrNone (now (ring .entry)) track «start_bit») n ⌝ }
-{
-    let zeros = zero_record();
-    let mut rows = [zeros; 195];
-    let answer = scan_into_rows(ring, track, start_bit, &mut rows);
-    let row = read_row(&rows, n);
-    of_scan(row, n, answer)
 }

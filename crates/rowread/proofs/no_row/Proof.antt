@@ -1,6 +1,6 @@
 use borrow.Author.Needs.{needs}
-use Rattle.rows.proofs.no_row.Statement.{statement}
-use Rattle.rows.proofs.no_row.Tie as tie
+use Rattle.rowread.proofs.no_row.Statement.{statement}
+use Rattle.rowread.proofs.no_row.Tie as tie
 
 zero-record-requires : tie.Need-zero-record-requires
 zero-record-requires c κs = search needs

@@ -32,16 +32,17 @@ use Rattle.scan.specs.declared.SectorRecord.{SectorRecord}
 use Rattle.scan.specs.declared.Scanned.{Scanned}
 use Rattle.scan.proofs.Scanned as E
 use Rattle.scan.proofs.Scanned.Laws as E′
-use Rattle.rows.specs.declared.Row.{Row}
-use Rattle.rows.specs.Rows.{zeros, rowAt}
-use Rattle.rows.specs.Answers.{scannedInto, rowsAfter, ofScan}
-use Rattle.rows.proofs.Row as Q
-use Rattle.rows.proofs.Row.Laws as Q′
+use Rattle.rowread.specs.declared.Row.{Row}
+use Rattle.rowread.specs.Rows.{zeros, rowAt}
+use Rattle.rows.specs.Answers.{scannedInto, rowsAfter}
+use Rattle.rowread.specs.Nth.{ofScan}
+use Rattle.rowread.proofs.Row as Q
+use Rattle.rowread.proofs.Row.Laws as Q′
 use Rattle.rows.proofs.Records.{R}
-use Rattle.rows.proofs.zero_record as zero-record
+use Rattle.rowread.proofs.zero_record as zero-record
 use Rattle.rows.proofs.scan_into_rows as scan-into-rows
-use Rattle.rows.proofs.read_row as read-row
-use Rattle.rows.proofs.of_scan as of-scan
+use Rattle.rowread.proofs.read_row as read-row
+use Rattle.rowread.proofs.of_scan as of-scan
 
 -- a row and a scan's answer: their types, and their machine values
 abbrev pub S : RattleType

@@ -14,10 +14,12 @@ use Rattle.scan.specs.declared.Scanned.{Scanned}
 use Rattle.scan.specs.declared.Scanned.the-variants.{Records, Refused}
 use Rattle.scan.specs.Scan.{records}
 use Rattle.scan.specs.Answers.{unlessRefused}
-use Rattle.rows.specs.declared.Row.{Row}
-use Rattle.rows.specs.Rows.{zeros, noRow, rowAt, laid}
-use Rattle.rows.specs.Answers.{refusalOf, ofScan, scannedInto, rowsAfter, recordsOrNone}
+use Rattle.rowread.specs.declared.Row.{Row}
+use Rattle.rows.specs.Rows.{laid}
+use Rattle.rowread.specs.Rows.{zeros, noRow, rowAt}
+use Rattle.rows.specs.Answers.{refusalOf, scannedInto, rowsAfter}
+use Rattle.rowread.specs.Nth.{ofScan, recordsOrNone}
 use Rattle.rows.proofs.Refusing.{by-tests, answer-by, rows-by}
 
 -- ---- `of_scan`
 pub of-scan-in : (row : Row) (n : ℕ) (answer : Scanned) (count : ℕ) → answer ≡ Records count → n < count → row ≡ ofScan row n answer

@@ -1,6 +1,6 @@
--- `rows::nth_record` meets its contract: a walk of its code, by hand. The rows are a local array, laid out as its elements; they are lent
--- to
--- `scan_into_rows` for a lifetime of the call, come back, are lent to `read_row` as they are, come back, and are the array's room again.
+-- `rowread::nth_record` meets its contract: a walk of its code, by hand. The rows are a local array, laid out as its elements; they are
+-- lent to `scan_into_rows` for a lifetime of the call, come back, are lent to `read_row` as they are, come back, and are the array's room
+-- again.
 -- The walk is over any list `start` of 195 records of zeros, so that antt never unfolds it.
 -- Assumes nothing.
 use mathlib.Core.Path.{_≡_, refl, sym, ap, subst, _∙_}
@@ -58,38 +58,39 @@ use Rattle.scan.proofs.SectorRecord as T
 use Rattle.scan.proofs.SectorRecord.Laws as T′
 use Rattle.scan.proofs.Scanned as E
 use Rattle.scan.proofs.Scanned.Laws as E′
-use Rattle.rows.specs.declared.Row.{Row}
-use Rattle.rows.specs.Rows.{zeros, rowAt}
-use Rattle.rows.specs.Answers.{scannedInto, rowsAfter, ofScan, recordsOrNone}
-use Rattle.rows.proofs.Row as Q
-use Rattle.rows.proofs.Row.Laws as Q′
+use Rattle.rowread.specs.declared.Row.{Row}
+use Rattle.rowread.specs.Rows.{zeros, rowAt}
+use Rattle.rows.specs.Answers.{scannedInto, rowsAfter}
+use Rattle.rowread.specs.Nth.{ofScan, recordsOrNone}
+use Rattle.rowread.proofs.Row as Q
+use Rattle.rowread.proofs.Row.Laws as Q′
 use Rattle.rows.proofs.Records.{R}
-use Rattle.rows.proofs.LocalRows.{lay, unlay}
-use Rattle.rows.proofs.NthLaws.{nth}
-use Rattle.rows.proofs.NthCalls.{S, told, made, Answer, made-answer, ZeroRecord, ScanInto, ReadRow, OfScan}
-use Rattle.rows.proofs.NthCalls.{to-zero, goes-zero}
-use Rattle.rows.proofs.NthCalls.{of-zero, Lent, scan-arg, to-scan, goes-scan, Into, Shared, read-arg, to-read, goes-read, of-read}
-use Rattle.rows.proofs.NthCalls.{of-arg, to-of, goes-of, of-of}
-use Rattle.rows.proofs.zero_record as zero-record
-use Rattle.rows.proofs.zero_record.Symbol as zero-record-def
-use Rattle.rows.proofs.zero_record.Symbol.{name as #rows·zero-record}
-use Rattle.rows.proofs.zero_record.Met as zero-record-thm
+use Rattle.rowread.proofs.LocalRows.{lay, unlay}
+use Rattle.rowread.proofs.NthLaws.{nth}
+use Rattle.rowread.proofs.NthCalls.{S, told, made, Answer, made-answer, ZeroRecord, ScanInto, ReadRow, OfScan}
+use Rattle.rowread.proofs.NthCalls.{to-zero, goes-zero}
+use Rattle.rowread.proofs.NthCalls.{of-zero, Lent, scan-arg, to-scan, goes-scan, Into, Shared, read-arg, to-read, goes-read, of-read}
+use Rattle.rowread.proofs.NthCalls.{of-arg, to-of, goes-of, of-of}
+use Rattle.rowread.proofs.zero_record as zero-record
+use Rattle.rowread.proofs.zero_record.Symbol as zero-record-def
+use Rattle.rowread.proofs.zero_record.Symbol.{name as #rowread·zero-record}
+use Rattle.rowread.proofs.zero_record.Met as zero-record-thm
 use Rattle.rows.proofs.scan_into_rows as scan-into-rows
 use Rattle.rows.proofs.scan_into_rows.Symbol as scan-into-rows-def
 use Rattle.rows.proofs.scan_into_rows.Symbol.{name as #rows·scan-into-rows}
 use Rattle.rows.proofs.scan_into_rows.Met as scan-into-rows-thm
-use Rattle.rows.proofs.read_row as read-row
-use Rattle.rows.proofs.read_row.Symbol as read-row-def
-use Rattle.rows.proofs.read_row.Symbol.{name as #rows·read-row}
-use Rattle.rows.proofs.read_row.Met as read-row-thm
-use Rattle.rows.proofs.of_scan as of-scan
-use Rattle.rows.proofs.of_scan.Symbol as of-scan-def
-use Rattle.rows.proofs.of_scan.Symbol.{name as #rows·of-scan}
-use Rattle.rows.proofs.of_scan.Met as of-scan-thm
-use Rattle.rows.proofs.nth_record.Key.{name as #rows·nth-record}
-use Rattle.rows.proofs.nth_record as nth-record
-use Rattle.rows.proofs.nth_record.Statement as stated
-use Rattle.rows.proofs.nth_record.Code as code
+use Rattle.rowread.proofs.read_row as read-row
+use Rattle.rowread.proofs.read_row.Symbol as read-row-def
+use Rattle.rowread.proofs.read_row.Symbol.{name as #rowread·read-row}
+use Rattle.rowread.proofs.read_row.Met as read-row-thm
+use Rattle.rowread.proofs.of_scan as of-scan
+use Rattle.rowread.proofs.of_scan.Symbol as of-scan-def
+use Rattle.rowread.proofs.of_scan.Symbol.{name as #rowread·of-scan}
+use Rattle.rowread.proofs.of_scan.Met as of-scan-thm
+use Rattle.rowread.proofs.nth_record.Key.{name as #rowread·nth-record}
+use Rattle.rowread.proofs.nth_record as nth-record
+use Rattle.rowread.proofs.nth_record.Statement as stated
+use Rattle.rowread.proofs.nth_record.Code as code
 
 -- what the two callees are passed of the rows
 abbrev lentRef : Ty
@@ -161,10 +162,10 @@ module _ {M : Type 1} (𝓤 : URA M) (H : Heap 𝓤) (A : Atoms 𝓤) (W : Given
       owned ! S (Is S) (LL.makes Q.the-type Q′.the-plain 𝓤 H A) r _ is $ done !
 
   module _ (C : Calls 𝓤 H) (Λ : Loops 𝓤 H) (fm : FmC 𝓤 H (W .laws) C)
-      (zero-known : Triple 𝓤 (C #rows·zero-record) (ZeroRecord 𝓤 H A mem run))
+      (zero-known : Triple 𝓤 (C #rowread·zero-record) (ZeroRecord 𝓤 H A mem run))
       (scan-known : Triple 𝓤 (C #rows·scan-into-rows) (ScanInto 𝓤 H A mem run))
-      (read-known : Triple 𝓤 (C #rows·read-row) (ReadRow 𝓤 H A mem run))
-      (of-known : Triple 𝓤 (C #rows·of-scan) (OfScan 𝓤 H A mem run)) where
+      (read-known : Triple 𝓤 (C #rowread·read-row) (ReadRow 𝓤 H A mem run))
+      (of-known : Triple 𝓤 (C #rowread·of-scan) (OfScan 𝓤 H A mem run)) where
     walk : Room u8 (length ring) → t < 2 ^ 8 → s₀ < 2 ^ 64 → n < 2 ^ 64
         → ent 𝓤 (onEntry 𝓤 H A nth-record.signature (κ, tt) (q, tt) a vals)
         (WpFn 𝓤 H C Λ code.function (sr ∷ vint w8 t ∷ vint w64 s₀ ∷ vint w64 n ∷ []) Post)
@@ -285,9 +286,9 @@ module _ {M : Type 1} (𝓤 : URA M) (H : Heap 𝓤) (A : Atoms 𝓤) (W : Given
         n-fits)))))))))))))))))))))))))))))))))))))
 
 module _ {M : Type 1} (𝓤 : URA M) (H : Heap 𝓤) (A : Atoms 𝓤) (W : Given 𝓤 H A) (mem : Memory → SProp 𝓤) (run : Routine → Fun 𝓤) where
-  nth-record-walks : (C : Calls 𝓤 H) (Λ : Loops 𝓤 H) → FmC 𝓤 H (W .laws) C → Triple 𝓤 (C #rows·zero-record) (ZeroRecord 𝓤 H A mem run)
-      → Triple 𝓤 (C #rows·scan-into-rows) (ScanInto 𝓤 H A mem run) → Triple 𝓤 (C #rows·read-row) (ReadRow 𝓤 H A mem run)
-      → Triple 𝓤 (C #rows·of-scan) (OfScan 𝓤 H A mem run)
+  nth-record-walks : (C : Calls 𝓤 H) (Λ : Loops 𝓤 H) → FmC 𝓤 H (W .laws) C → Triple 𝓤 (C #rowread·zero-record) (ZeroRecord 𝓤 H A mem run)
+      → Triple 𝓤 (C #rows·scan-into-rows) (ScanInto 𝓤 H A mem run) → Triple 𝓤 (C #rowread·read-row) (ReadRow 𝓤 H A mem run)
+      → Triple 𝓤 (C #rowread·of-scan) (OfScan 𝓤 H A mem run)
       → Walks 𝓤 H A nth-record.ended stayed (WpFn 𝓤 H C Λ code.function) (nth-record.clauses 𝓤 H A mem run)
   nth-record-walks C Λ fm known₁ known₂ known₃ known₄ =
       walked 𝓤 H A nth-record.ended stayed (nth-record.clauses 𝓤 H A mem run) (WpFn 𝓤 H C Λ code.function)
@@ -298,9 +299,9 @@ module _ {M : Type 1} (𝓤 : URA M) (H : Heap 𝓤) (A : Atoms 𝓤) (W : Given
       known₁ known₂ known₃ known₄ (are .0 .0 .1) (are .1 .0 .1) (are .1 .1 .0 .1) (are .1 .1 .1 .0 .1)))
 
 nth-record-meets : {M : Type 1} (𝓤 : URA M) (H : Heap 𝓤) (A : Atoms 𝓤) → Given 𝓤 H A → (mem : Memory → SProp 𝓤) (run : Routine → Fun 𝓤)
-    (𝓣 : Tables 𝓤 H) → Triple 𝓤 (𝓣 .C #rows·zero-record) (ZeroRecord 𝓤 H A mem run)
-    → Triple 𝓤 (𝓣 .C #rows·scan-into-rows) (ScanInto 𝓤 H A mem run) → Triple 𝓤 (𝓣 .C #rows·read-row) (ReadRow 𝓤 H A mem run)
-    → Triple 𝓤 (𝓣 .C #rows·of-scan) (OfScan 𝓤 H A mem run)
+    (𝓣 : Tables 𝓤 H) → Triple 𝓤 (𝓣 .C #rowread·zero-record) (ZeroRecord 𝓤 H A mem run)
+    → Triple 𝓤 (𝓣 .C #rows·scan-into-rows) (ScanInto 𝓤 H A mem run) → Triple 𝓤 (𝓣 .C #rowread·read-row) (ReadRow 𝓤 H A mem run)
+    → Triple 𝓤 (𝓣 .C #rowread·of-scan) (OfScan 𝓤 H A mem run)
     → Meets 𝓤 H A nth-record.signature (WpFn 𝓤 H (𝓣 .C) (𝓣 .Λ) code.function) (nth-record.spec 𝓤 H A mem run)
 nth-record-meets 𝓤 H A W mem run 𝓣 known₁ known₂ known₃ known₄ =
     walk-meets 𝓤 H A nth-record.ended stayed W (
@@ -320,13 +321,13 @@ pub nth-record-spec : {M : Type 1} → stated.statement M
 unfolding code.routine tablesOf
 nth-record-spec 𝓤 H 𝓜 𝓖 𝓡 =
     entered 𝓤 H (tripleOf 𝓤 H (𝓖 .A) nth-record.signature (nth-record.spec 𝓤 H (𝓖 .A) (𝓜 .mem) (𝓡 .run)))
-    (tables 𝓤 H 𝓜 𝓡 code.env .C) (tables 𝓤 H 𝓜 𝓡 code.env .Λ) #rows·nth-record code.function (code.unfolded 𝓤 H 𝓜 𝓡)
+    (tables 𝓤 H 𝓜 𝓡 code.env .C) (tables 𝓤 H 𝓜 𝓡 code.env .Λ) #rowread·nth-record code.function (code.unfolded 𝓤 H 𝓜 𝓡)
     (nth-record-meets 𝓤 H (𝓖 .A) (givenOf 𝓤 H 𝓜 𝓖) (𝓜 .mem) (𝓡 .run) (tablesOf 𝓤 H 𝓜 (tables 𝓤 H 𝓜 𝓡 code.env))
-    (cited 𝓤 H (ZeroRecord 𝓤 H (𝓖 .A) (𝓜 .mem) (𝓡 .run)) 𝓜 𝓡 code.env #rows·zero-record zero-record-def.routine
-    code.calls-rows·zero-record (zero-record-thm.met 𝓤 H 𝓜 𝓖 𝓡))
+    (cited 𝓤 H (ZeroRecord 𝓤 H (𝓖 .A) (𝓜 .mem) (𝓡 .run)) 𝓜 𝓡 code.env #rowread·zero-record zero-record-def.routine
+    code.calls-rowread·zero-record (zero-record-thm.met 𝓤 H 𝓜 𝓖 𝓡))
     (cited 𝓤 H (ScanInto 𝓤 H (𝓖 .A) (𝓜 .mem) (𝓡 .run)) 𝓜 𝓡 code.env #rows·scan-into-rows scan-into-rows-def.routine
     code.calls-rows·scan-into-rows (scan-into-rows-thm.met 𝓤 H 𝓜 𝓖 𝓡))
-    (cited 𝓤 H (ReadRow 𝓤 H (𝓖 .A) (𝓜 .mem) (𝓡 .run)) 𝓜 𝓡 code.env #rows·read-row read-row-def.routine
-    code.calls-rows·read-row (read-row-thm.met 𝓤 H 𝓜 𝓖 𝓡))
-    (cited 𝓤 H (OfScan 𝓤 H (𝓖 .A) (𝓜 .mem) (𝓡 .run)) 𝓜 𝓡 code.env #rows·of-scan of-scan-def.routine
-    code.calls-rows·of-scan (of-scan-thm.met 𝓤 H 𝓜 𝓖 𝓡)))
+    (cited 𝓤 H (ReadRow 𝓤 H (𝓖 .A) (𝓜 .mem) (𝓡 .run)) 𝓜 𝓡 code.env #rowread·read-row read-row-def.routine
+    code.calls-rowread·read-row (read-row-thm.met 𝓤 H 𝓜 𝓖 𝓡))
+    (cited 𝓤 H (OfScan 𝓤 H (𝓖 .A) (𝓜 .mem) (𝓡 .run)) 𝓜 𝓡 code.env #rowread·of-scan of-scan-def.routine
+    code.calls-rowread·of-scan (of-scan-thm.met 𝓤 H 𝓜 𝓖 𝓡)))

@@ -1,8 +1,8 @@
 use mathlib.Core.Path.{_∙_}
 use borrow.Author.Needs.{needs}
-use Rattle.rows.proofs.NthLaws.{of-scan-in, of-scan-past}
-use Rattle.rows.proofs.of_scan.Statement.{statement}
-use Rattle.rows.proofs.of_scan.Tie as tie
+use Rattle.rowread.proofs.NthLaws.{of-scan-in, of-scan-past}
+use Rattle.rowread.proofs.of_scan.Statement.{statement}
+use Rattle.rowread.proofs.of_scan.Tie as tie
 
 enum-known-answer : tie.Need-enum-known-answer
 enum-known-answer c = search needs

@@ -1,0 +1,3 @@
+pub mod NthLaws
+pub mod LocalRows
+pub mod NthCalls
