@@ -9,7 +9,7 @@ use Rattle.scan.specs.declared.SectorRecord.{SectorRecord}
 use Rattle.scan.specs.Scan.{recordsFrom}
 use Rattle.reading.specs.Reading.{firstOf}
 
--- the records that begin in the first `span` bytes of a window
+-- the records of one turn, which ends with the first `span` bytes of the window; as in any scan, a sync may end up to 15 bits past it
 abbrev pub turnRecords : List ℕ → ℕ → ℕ → List SectorRecord
 turnRecords window span track = recordsFrom (bitAt window) track (8 * span) 0
 
