@@ -1,10 +1,9 @@
 -- Clearing goes by the kind.
--- Assumes nothing.
 use mathlib.Core.Path.{_≡_, ap, sym}
 use mathlib.Core.List.{List}
 use Prim.Native.Nat.{ℕ}
-use Rattle.kinds.specs.declared.Kind.{Kind}
-use Rattle.kinds.specs.Kinds.{kindOf}
+use Rattle.image_kind.specs.declared.Kind.{Kind}
+use Rattle.image_kind.specs.Kinds.{kindOf}
 use Rattle.any_kind.specs.AnyKind.{clearedAs, cleared}
 
 pub cleared-is : (image : List ℕ) (k : Kind) → kindOf image ≡ k → clearedAs image k ≡ cleared image

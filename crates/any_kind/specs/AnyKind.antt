@@ -2,11 +2,11 @@
 use Prim.Native.Nat.{ℕ}
 use mathlib.Core.List.{List}
 use Rattle.base.specs.Refusals.{wrongImage}
-use Rattle.clearing.specs.Clearing.{Answer, refuse}
+use Rattle.reclaim.specs.Clearing.{Answer, refuse}
 use Rattle.reclaim.specs.Images.{clearedD64, clearedG64, clearedNib}
-use Rattle.kinds.specs.declared.Kind.{Kind}
-use Rattle.kinds.specs.declared.Kind.the-variants.{D64, G64, Nib, Unknown}
-use Rattle.kinds.specs.Kinds.{kindOf}
+use Rattle.image_kind.specs.declared.Kind.{Kind}
+use Rattle.image_kind.specs.declared.Kind.the-variants.{D64, G64, Nib, Unknown}
+use Rattle.image_kind.specs.Kinds.{kindOf}
 
 -- clearing, by the kind
 abbrev pub clearedAs : List ℕ → Kind → Answer

@@ -1,5 +1,4 @@
 -- Each way out of a part and of a track built into a part.
--- Assumes nothing.
 use mathlib.Core.Path.{_≡_, _∙_}
 use mathlib.Core.List.{List, [], _++_}
 use Prim.Native.Nat.{ℕ, _+_, _-_, _≤_, _<_}
@@ -7,9 +6,9 @@ use native.Mathlib.Omega.{arith}
 use lib.ListN.{length, take, drop}
 use Rattle.base.specs.Refusals.{noRoom}
 use Rattle.base.proofs.Tests.{leb-yes, leb-no}
-use Rattle.track.specs.Answers.{built}
-use Rattle.track.specs.declared.Built.{Built}
-use Rattle.track.specs.declared.Built.the-variants.{Refused}
+use Rattle.track_build.specs.Answers.{built}
+use Rattle.track_build.specs.declared.Built.{Built}
+use Rattle.track_build.specs.declared.Built.the-variants.{Refused}
 use Rattle.replay.specs.declared.Row.{Row}
 use Rattle.replay.proofs.PartLaws.{kept, done}
 use Rattle.assembly.specs.Parts.{partOf}

@@ -5,9 +5,9 @@ use lib.Dec.{leb}
 use lib.ListN.{length, take, drop}
 use Rattle.base.specs.Choice.{pick}
 use Rattle.base.specs.Refusals.{noRoom}
-use Rattle.track.specs.Answers.{built, outAfter}
-use Rattle.track.specs.declared.Built.{Built}
-use Rattle.track.specs.declared.Built.the-variants.{Refused}
+use Rattle.track_build.specs.Answers.{built, outAfter}
+use Rattle.track_build.specs.declared.Built.{Built}
+use Rattle.track_build.specs.declared.Built.the-variants.{Refused}
 use Rattle.replay.specs.Changes.{inPart}
 use Rattle.replay.specs.declared.Row.{Row}
 use Rattle.assembly.specs.Parts.{partOf}

@@ -1,10 +1,10 @@
 // Tracks built by rows, of parts of a buffer. compare/README.md lists the rows.
 ghost use mathlib.Core.Path.{_≡_};
-ghost use Rattle.track.specs.Answers.{built};
+ghost use Rattle.track_build.specs.Answers.{built};
 ghost use Rattle.assembly.specs.Parts.{partOf};
 ghost use Rattle.assembly.specs.Tracks.{trackOf, payloadsOf, roomBuilt, targetBuilt, builtBy};
 use replay::Row;
-use track::Built;
+use track_build::Built;
 
 // Where the codes stand in the source.
 const CODES: usize = 208896;
@@ -32,7 +32,7 @@ fn build_in(room: &mut [u8], source: &[u8], row: Row) -> Built
     let number = (row.c / 65536 % 256) as u8;
     let id1 = (row.c / 256 % 256) as u8;
     let id2 = (row.c % 256) as u8;
-    track::build_track_with_errors(number, payloads, codes, id1, id2, room)
+    track_build::build_track_with_errors(number, payloads, codes, id1, id2, room)
 }
 
 // Rows B and T.

@@ -3,7 +3,6 @@
 --     gather-byte            eight bits that are a byte's make the byte
 --     bytes-there            the bytes that stand in a list's own bits are the list's
 --     bit-there              bit i of the bytes that stand at place p is the bit at p + i
--- Assumes nothing.
 use Prim.Native.Nat.{ℕ, zero, suc, _+_, _-_, _*_, _/_, _%_, _^_, _≤_, _<_}
 use mathlib.Core.Path.{_≡_, refl, sym, ap, ap₂, _∙_, subst}
 use mathlib.Core.List.{List, [], _∷_, _++_}

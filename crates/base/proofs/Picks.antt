@@ -1,5 +1,4 @@
 -- Choices by a test, and tests joined by `and`.
--- Assumes nothing.
 use mathlib.Core.Path.{_≡_, refl, sym, _∙_}
 use mathlib.Core.Bool.{Bool, true, false, _&&_, true≢false}
 use Rattle.base.specs.Choice.{pick}

@@ -1,7 +1,6 @@
 -- Bytes stored one after the other: what a turn of a loop that stores adds to what stands already.
 --     put-turn                            stores behind a run of stores
 --     bytes-turn, zeros-turn, tab-turn    one store more, of a list, of zeros, of a rule
--- Assumes nothing.
 use Prim.Native.Nat.{ℕ, _+_, _<_}
 use mathlib.Core.Path.{_≡_, refl, sym, ap, _∙_}
 use mathlib.Core.List.{List, [], _∷_, _++_}

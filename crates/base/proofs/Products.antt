@@ -1,7 +1,6 @@
 -- Fractions compared by cross products: p of P against q of Q is p * Q against q * P.
 --     le-le, lt-le, le-lt   the order of fractions is transitive
 --     small                 the product of two numbers up to 8,192
--- Assumes nothing.
 use Prim.Native.Nat.{ℕ, _*_, _≤_, _<_}
 use mathlib.Core.Path.{_≡_}
 use native.Mathlib.Nat.{mul-right-comm, mul-le-mul-right, mul-le-mul, mul-lt-mul-of-pos-right}

@@ -4,7 +4,6 @@
 --     tab-put, joined-put     a table, and lists of one length one after the other, with element s changed
 --     filled-more             a list filled with one value
 --     count-..                how many numbers of a list are a
--- Assumes nothing.
 use Prim.Native.Nat.{ℕ, zero, suc, _+_, _*_, _≤_, _<_}
 use mathlib.Core.Path.{_≡_, refl, sym, ap, ap₂, _∙_}
 use mathlib.Core.Logic.{_≢_}

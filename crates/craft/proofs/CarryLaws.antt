@@ -1,5 +1,4 @@
 -- A block's check byte, and both buffers after a row.
--- Assumes nothing.
 use mathlib.Core.Path.{_≡_}
 use mathlib.Core.Logic.{_≢_, ⊎-elim, inl, inr}
 use mathlib.Core.Bool.{true, false}

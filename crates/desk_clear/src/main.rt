@@ -1,9 +1,9 @@
 // Clears an image of any kind: read from standard input, the cleared image goes to standard output, and a line of what was done to
 // standard error. Refused, only that line is written.
-use clearing::Outcome;
 use libc::STDERR_FILENO;
 use libc::STDIN_FILENO;
 use libc::STDOUT_FILENO;
+use reclaim::Outcome;
 
 fn tell(outcome: Outcome) {
     let mut line = [0u8; 128];
@@ -32,6 +32,6 @@ fn run(buffer: &mut [u8]) {
 }
 
 fn main() {
-    let mut buffer = room::image();
+    let mut buffer = desk_room::image();
     run(&mut buffer);
 }

@@ -1,9 +1,9 @@
 // The slots of a NIB file, read from standard input: a line for each. A refusal goes to standard error.
-use catalogue::Pairs;
-use clearing::Outcome;
 use libc::STDERR_FILENO;
 use libc::STDIN_FILENO;
 use libc::STDOUT_FILENO;
+use nib_catalogue::Pairs;
+use reclaim::Outcome;
 
 fn refuse(number: u8) {
     let mut line = [0u8; 128];
@@ -13,7 +13,7 @@ fn refuse(number: u8) {
 
 fn put_line(file: &[u8], slot: usize) {
     let mut page = [0u8; 2048];
-    let n = slot_lines::put_slot(&mut page, 0, file, slot);
+    let n = page_slot::put_slot(&mut page, 0, file, slot);
     io::write_all(STDOUT_FILENO, lines::so_far(&page, n));
 }
 
@@ -24,7 +24,7 @@ fn put_lines(file: &[u8]) {
 }
 
 fn list(file: &[u8]) {
-    let pairs = catalogue::read_catalogue(file);
+    let pairs = nib_catalogue::read_catalogue(file);
     match pairs {
         Pairs::Count(_) => put_lines(file),
         Pairs::Refused(number) => refuse(number),
@@ -41,6 +41,6 @@ fn run(buffer: &mut [u8]) {
 }
 
 fn main() {
-    let mut buffer = room::image();
+    let mut buffer = desk_room::image();
     run(&mut buffer);
 }

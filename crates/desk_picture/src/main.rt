@@ -1,9 +1,9 @@
 // A picture of an image's side, read from standard input: SVG text, one ring a track and one arc a sector. A refusal goes to standard
 // error.
-use clearing::Outcome;
 use libc::STDERR_FILENO;
 use libc::STDIN_FILENO;
 use libc::STDOUT_FILENO;
+use reclaim::Outcome;
 
 fn refuse(number: u8) {
     let mut line = [0u8; 128];
@@ -13,30 +13,30 @@ fn refuse(number: u8) {
 
 fn put_track(image: &[u8], track: u8) {
     let mut page = [0u8; 8192];
-    let n = track_arcs::put_arcs(&mut page, 0, image, track);
+    let n = page_side::put_arcs(&mut page, 0, image, track);
     io::write_all(STDOUT_FILENO, lines::so_far(&page, n));
 }
 
 fn put_tracks(image: &[u8]) {
-    for track in 1..=statuses::LAST_TRACK {
+    for track in 1..=image_statuses::LAST_TRACK {
         put_track(image, track);
     }
 }
 
 fn put_head() {
     let mut page = [0u8; 512];
-    let n = picture::put_svg_head(&mut page, 0);
+    let n = page_side::put_svg_head(&mut page, 0);
     io::write_all(STDOUT_FILENO, lines::so_far(&page, n));
 }
 
 fn put_end() {
     let mut page = [0u8; 512];
-    let n = picture::put_svg_end(&mut page, 0);
+    let n = page_side::put_svg_end(&mut page, 0);
     io::write_all(STDOUT_FILENO, lines::so_far(&page, n));
 }
 
 fn draw(image: &[u8]) {
-    let fault = kinds::image_fault(image);
+    let fault = image_kind::image_fault(image);
     if fault == 0 {
         put_head();
         put_tracks(image);
@@ -56,6 +56,6 @@ fn run(buffer: &mut [u8]) {
 }
 
 fn main() {
-    let mut buffer = room::image();
+    let mut buffer = desk_room::image();
     run(&mut buffer);
 }

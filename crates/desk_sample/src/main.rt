@@ -42,7 +42,7 @@ fn run(target: &mut [u8], source: &mut [u8]) {
 }
 
 fn main() {
-    let mut target = room::image();
-    let mut source = room::disk();
+    let mut target = desk_room::image();
+    let mut source = desk_room::disk();
     run(&mut target, &mut source);
 }

@@ -1,9 +1,9 @@
 // The tracks of an image, read from standard input: a line for each, with the sectors that read and those that do not. A refusal goes
 // to standard error.
-use clearing::Outcome;
 use libc::STDERR_FILENO;
 use libc::STDIN_FILENO;
 use libc::STDOUT_FILENO;
+use reclaim::Outcome;
 
 fn refuse(number: u8) {
     let mut line = [0u8; 128];
@@ -13,18 +13,18 @@ fn refuse(number: u8) {
 
 fn put_line(image: &[u8], track: u8) {
     let mut page = [0u8; 2048];
-    let n = track_lines::put_track(&mut page, 0, image, track);
+    let n = page_track::put_track(&mut page, 0, image, track);
     io::write_all(STDOUT_FILENO, lines::so_far(&page, n));
 }
 
 fn put_lines(image: &[u8]) {
-    for track in 1..=statuses::LAST_TRACK {
+    for track in 1..=image_statuses::LAST_TRACK {
         put_line(image, track);
     }
 }
 
 fn list(image: &[u8]) {
-    let fault = kinds::image_fault(image);
+    let fault = image_kind::image_fault(image);
     if fault == 0 {
         put_lines(image);
     } else {
@@ -42,6 +42,6 @@ fn run(buffer: &mut [u8]) {
 }
 
 fn main() {
-    let mut buffer = room::image();
+    let mut buffer = desk_room::image();
     run(&mut buffer);
 }

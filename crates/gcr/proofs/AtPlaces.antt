@@ -1,5 +1,4 @@
 -- A group where it stands among bits: decoding its five bytes is decoding the symbols that stand there.
--- Assumes nothing.
 use mathlib.Core.Path.{_≡_, refl, sym, ap, _∙_, subst}
 use mathlib.Core.List.{List}
 use Prim.Native.Nat.{ℕ, _+_, _*_, _≤_, _<_}

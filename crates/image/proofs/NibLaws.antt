@@ -1,13 +1,12 @@
 -- The NIB table: each way out of the functions that read it.
--- Assumes nothing.
 use mathlib.Core.Path.{_≡_}
 use mathlib.Core.Bool.{true}
 use mathlib.Core.List.{List}
 use Prim.Native.Nat.{ℕ, _+_, _*_, _≤_}
-use Rattle.catalogue.specs.declared.Pairs.the-variants.{Count, Refused as NoCatalogue}
-use Rattle.catalogue.specs.declared.Entry.the-variants.{At as Pair, Absent as NoPair, Refused as NoEntry}
-use Rattle.catalogue.specs.Catalogue.{catalogueOf, placeOf}
-use Rattle.nib.proofs.Slotting.{entry-is}
+use Rattle.nib_catalogue.specs.declared.Pairs.the-variants.{Count, Refused as NoCatalogue}
+use Rattle.nib_catalogue.specs.declared.Entry.the-variants.{At as Pair, Absent as NoPair, Refused as NoEntry}
+use Rattle.nib_catalogue.specs.Catalogue.{catalogueOf, placeOf}
+use Rattle.nib_slots.proofs.Slotting.{entry-is}
 use Rattle.image.specs.declared.Place.{Place}
 use Rattle.image.specs.declared.Place.the-variants.{At, Absent}
 use Rattle.image.specs.Rings.{startOf, lengthOf, tableOf, noTable}

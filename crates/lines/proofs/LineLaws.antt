@@ -1,5 +1,4 @@
 -- A text added to a line, and one that is left out; a piece made of two texts.
--- Assumes nothing.
 use Prim.Native.Nat.{ℕ, _+_, _≤_, _<_}
 use mathlib.Core.Path.{_≡_, refl, ap, _∙_}
 use mathlib.Core.List.{List, _++_}
@@ -8,8 +7,8 @@ use lib.ListN.{length, take, drop, length-append}
 use lib.Seq.{take-at}
 use Rattle.base.proofs.InRow.{sets-front}
 use Rattle.base.proofs.Tests.{leb-yes, leb-no}
-use Rattle.text.specs.Put.{Put}
-use Rattle.text.proofs.PutLaws.{put-more}
+use Rattle.page_text.specs.Put.{Put}
+use Rattle.page_text.proofs.PutLaws.{put-more}
 use Rattle.lines.specs.Line.{lineWith, placeAfter}
 
 -- what a function that puts a text into a line promises

@@ -5,7 +5,7 @@ use lib.Dec.{leb}
 use lib.ListN.{length}
 use lib.Seq.{sets}
 use Rattle.base.specs.Choice.{pick}
-use Rattle.text.specs.Numerals.{decimal, hexOf}
+use Rattle.page_text.specs.Numerals.{decimal, hexOf}
 
 -- the line with a text put at a place; where it does not fit, the line as it is
 unfoldable pub lineWith : List ℕ → ℕ → List ℕ → List ℕ

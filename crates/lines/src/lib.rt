@@ -4,7 +4,7 @@ ghost use mathlib.Core.Path.{_≡_};
 ghost use Prim.Native.Nat.{_≤_};
 ghost use mathlib.Core.List.{_++_};
 ghost use lib.ListN.{length, take};
-ghost use Rattle.text.specs.Numerals.{decimal};
+ghost use Rattle.page_text.specs.Numerals.{decimal};
 ghost use Rattle.lines.specs.Line.{lineWith, placeAfter, numberText, sumText, refusedText};
 
 pub fn words(out: &mut [u8], at: usize, text: &[u8]) -> usize
@@ -17,7 +17,7 @@ pub fn words(out: &mut [u8], at: usize, text: &[u8]) -> usize
     if out.len() - at < text.len() {
         return at;
     }
-    text::put_bytes(out, at, text)
+    page_text::put_bytes(out, at, text)
 }
 
 // A label and a number in decimal.
@@ -27,8 +27,8 @@ fn labelled(out: &mut [u8], at: usize, label: &[u8], n: u64) -> usize
     ensures { λ r. ⌜ r ≡ placeAfter (now (out .entry)) at (now (label .entry) ++ decimal n) ⌝ }
 {
     let mut piece = [0u8; 28];
-    let digits = text::put_bytes(&mut piece, 0, label);
-    let end = text::put_decimal(&mut piece, digits, n);
+    let digits = page_text::put_bytes(&mut piece, 0, label);
+    let end = page_text::put_decimal(&mut piece, digits, n);
     words(out, at, so_far(&piece, end))
 }
 
@@ -54,8 +54,8 @@ pub fn sum(out: &mut [u8], at: usize, s: u32) -> usize
     ensures { λ r. ⌜ r ≡ placeAfter (now (out .entry)) at (sumText s) ⌝ }
 {
     let mut piece = [0u8; 13];
-    text::put_bytes(&mut piece, 0, b" sum ");
-    text::put_hex_word(&mut piece, 5, s);
+    page_text::put_bytes(&mut piece, 0, b" sum ");
+    page_text::put_hex_word(&mut piece, 5, s);
     words(out, at, &piece)
 }
 

@@ -1,5 +1,4 @@
 -- What is printed for an input, and what `list_ring` answers, test by test.
--- Assumes nothing.
 use mathlib.Core.Path.{_≡_, refl, sym, _∙_, subst}
 use mathlib.Core.Logic.{_≢_}
 use mathlib.Core.Bool.{Bool, true, false, _&&_}
@@ -19,8 +18,8 @@ use Rattle.base.proofs.Stores.{count-le}
 use Rattle.base.proofs.Rows.{joined-short}
 use Rattle.geometry.specs.Zones.{sectorsOf}
 use Rattle.geometry.proofs.ZoneLaws.{sectors-of}
-use Rattle.reading.specs.Reading.{readSector, readStatuses}
-use Rattle.text.specs.Put.{Put}
+use Rattle.track_read.specs.Reading.{readSector, readStatuses}
+use Rattle.page_text.specs.Put.{Put}
 use Rattle.lister.specs.Envelope.{isEnvelope, ringIn, trackIn, startIn, longestRing}
 use Rattle.lister.specs.Listing.{headLine, refusedLine, lineOf, ringLines, listing, listed, outAfter}
 use Rattle.lister.proofs.Putting.{head-long, refused-long, if-found}

@@ -1,12 +1,11 @@
 -- An envelope, test by test.
--- Assumes nothing.
 use mathlib.Core.Path.{_≡_}
 use mathlib.Core.Bool.{Bool, true, false}
 use mathlib.Core.List.{List}
 use Prim.Native.Nat.{ℕ, _≤_, _<_}
 use lib.Dec.{eqb}
 use lib.ListN.{length, take}
-use Rattle.base.specs.Bytes.{sameBytes, word}
+use Rattle.base.specs.Bytes.{sameBytes, twoBytes}
 use Rattle.base.proofs.Tests.{leb-yes, leb-no}
 use Rattle.lister.specs.Envelope.{letters, isEnvelope}
 
@@ -20,6 +19,6 @@ module _ (input : List ℕ) where
     unfolding isEnvelope
     other-letters t = rw (leb-yes 10 (length input) h, ← e, t)
 
-    pub by-version : same ≡ true → (version : ℕ) → version ≡ word input 3 → eqb version 1 ≡ isEnvelope input
+    pub by-version : same ≡ true → (version : ℕ) → version ≡ twoBytes input 3 → eqb version 1 ≡ isEnvelope input
     unfolding isEnvelope
     by-version t version v = rw (leb-yes 10 (length input) h, ← e, t, v)

@@ -3,7 +3,6 @@
 --     refusal-none                 so that no refusal is left to print
 --     few-found                    at most 21 sectors are found
 --     ring-put                     the first line and the sectors' lines are the ring's
--- Assumes nothing.
 use mathlib.Core.Path.{_≡_, ap, ap₂, _∙_, subst}
 use mathlib.Core.Logic.{_⊎_, inl, inr}
 use mathlib.Core.List.{List, [], _++_}
@@ -21,18 +20,18 @@ use Rattle.geometry.specs.Zones.{sectorsOf}
 use Rattle.geometry.proofs.ZoneLaws.{sectors-of}
 use Rattle.gcr.proofs.DecodeLaws.{byteAt}
 use Rattle.ring.specs.Bit.{bits, bitAt}
-use Rattle.reading.specs.declared.TrackRead.{TrackRead}
-use Rattle.reading.specs.declared.TrackRead.the-variants.{Found, Refused as NotRead}
+use Rattle.track_read.specs.declared.TrackRead.{TrackRead}
+use Rattle.track_read.specs.declared.TrackRead.the-variants.{Found, Refused as NotRead}
 use Rattle.scan.specs.Scan.{records}
-use Rattle.reading.specs.Reading.{Reading, missing, readSector, readPayloads, readStatuses}
+use Rattle.track_read.specs.Reading.{Reading, missing, readSector, readPayloads, readStatuses}
 use Rattle.scan.specs.Answers.{unlessRefused}
-use Rattle.reading.specs.Answers.{roomToRead, trackRead, trackPayloads, trackStatuses}
+use Rattle.track_read.specs.Answers.{roomToRead, trackRead, trackPayloads, trackStatuses}
 use Rattle.scan.proofs.StepLaws.{visit-good}
 use Rattle.scan.proofs.ScanLaws.{Every, scan-every, few-records}
-use Rattle.reading.proofs.ReadingLaws.{Handed, first-cases}
+use Rattle.track_read.proofs.ReadingLaws.{Handed, first-cases}
 use Rattle.scan.proofs.Passing.{Sized}
 use Rattle.scan.proofs.Refusing.{room}
-use Rattle.text.specs.Put.{Put}
+use Rattle.page_text.specs.Put.{Put}
 use Rattle.lister.specs.Listing.{headLine, sectorLine, lineOf, ringLines}
 use Rattle.lister.specs.Lines.{lineAt, lines}
 

@@ -1,5 +1,4 @@
 -- The lines as they are put, piece by piece.
--- Assumes nothing.
 use mathlib.Core.Path.{_≡_, refl, sym}
 use mathlib.Core.Logic.{_≢_}
 use mathlib.Core.Bool.{Bool, true, false}
@@ -14,11 +13,11 @@ use Rattle.base.specs.Choice.{pick}
 use Rattle.base.specs.Lists.{joined, xorOf}
 use Rattle.base.proofs.Tests.{eqb-yes, eqb-no}
 use Rattle.base.proofs.Rows.{joined-short}
-use Rattle.text.specs.Numerals.{decimal, decimalOf, hexOf}
-use Rattle.text.specs.Put.{Put}
-use Rattle.text.proofs.PutLaws.{put-more}
-use Rattle.text.proofs.DecimalLaws.{decimal-width}
-use Rattle.text.proofs.HexLaws.{length-hex, length-two}
+use Rattle.page_text.specs.Numerals.{decimal, decimalOf, hexOf}
+use Rattle.page_text.specs.Put.{Put}
+use Rattle.page_text.proofs.PutLaws.{put-more}
+use Rattle.page_text.proofs.DecimalLaws.{decimal-width}
+use Rattle.page_text.proofs.HexLaws.{length-hex, length-two}
 use Rattle.lister.specs.Listing.{newline, wordTrack, wordFound, wordOf, wordSector, wordSum, wordRefused}
 use Rattle.lister.specs.Listing.{headLine, sectorLine, refusedLine}
 use Rattle.lister.specs.Lines.{lineAt, lines}

@@ -4,7 +4,7 @@ use mathlib.Core.Bool.{Bool, _&&_}
 use mathlib.Core.List.{List, [], _∷_}
 use lib.Dec.{eqb, ltb, leb}
 use lib.ListN.{length, getD, take, drop}
-use Rattle.base.specs.Bytes.{sameBytes, word, long}
+use Rattle.base.specs.Bytes.{sameBytes, twoBytes, fourBytes}
 use Rattle.base.specs.Choice.{pick}
 use Rattle.base.specs.Refusals.{ringEmpty, ringTooLong, wrongImage}
 
@@ -14,13 +14,13 @@ letters = 0x54 ∷ 0x52 ∷ 0x4B ∷ []
 
 -- at least ten bytes, the letters, and version 1
 unfoldable pub isEnvelope : List ℕ → Bool
-isEnvelope input = leb 10 (length input) && (sameBytes (take 3 input) letters && eqb (word input 3) 1)
+isEnvelope input = leb 10 (length input) && (sameBytes (take 3 input) letters && eqb (twoBytes input 3) 1)
 
 abbrev pub trackIn : List ℕ → ℕ
 trackIn input = getD input 5 0
 
 abbrev pub startIn : List ℕ → ℕ
-startIn input = long input 6
+startIn input = fourBytes input 6
 
 abbrev pub ringIn : List ℕ → List ℕ
 ringIn input = drop 10 input

@@ -7,8 +7,8 @@ use Rattle.base.specs.Choice.{pick}
 use Rattle.base.specs.Lists.{joined, xorOf, countOf}
 use Rattle.base.specs.Refusals.{noRoom}
 use Rattle.geometry.specs.Zones.{sectorsOf}
-use Rattle.reading.specs.Reading.{Reading, readSector, readStatuses}
-use Rattle.text.specs.Numerals.{decimal, decimalOf, hexOf}
+use Rattle.track_read.specs.Reading.{Reading, readSector, readStatuses}
+use Rattle.page_text.specs.Numerals.{decimal, decimalOf, hexOf}
 use Rattle.lister.specs.Envelope.{trackIn, startIn, ringIn, unlessRefused}
 use Rattle.lister.specs.declared.Listed.{Listed}
 use Rattle.lister.specs.declared.Listed.the-variants.{Written, Refused}

@@ -4,12 +4,12 @@ ghost use mathlib.Core.List.{_++_};
 ghost use Prim.Native.Nat.{_+_, _*_, _<_, _≤_};
 ghost use lib.ListN.{length};
 ghost use Rattle.geometry.specs.Zones.{sectorsOf};
-ghost use Rattle.text.specs.Numerals.{decimal};
-ghost use Rattle.text.specs.Put.{Put};
+ghost use Rattle.page_text.specs.Numerals.{decimal};
+ghost use Rattle.page_text.specs.Put.{Put};
 ghost use Rattle.lister.specs.Envelope.{isEnvelope, longestRing};
 ghost use Rattle.lister.specs.Listing.{headLine, sectorLine, refusedLine, ringLines, listing, listed, outAfter};
 ghost use Rattle.lister.specs.Lines.{lineAt, lines};
-use reading::TrackRead;
+use track_read::TrackRead;
 
 // What listing answers: how many bytes are written, or a refusal number.
 pub enum Listed {
@@ -41,8 +41,8 @@ fn put_number(out: &mut [u8], at: usize, word: &[u8], n: u64) -> usize
     requires { ⌜ at + length (now word) + length (decimal n) ≤ length (now out) ⌝ }
     ensures { λ r. ⌜ Put (now (out .entry)) at (now (word .entry) ++ decimal n) (now (out .exit)) r ⌝ }
 {
-    let behind = text::put_bytes(out, at, word);
-    text::put_decimal(out, behind, n)
+    let behind = page_text::put_bytes(out, at, word);
+    page_text::put_decimal(out, behind, n)
 }
 
 // The first line.
@@ -54,7 +54,7 @@ fn put_head(out: &mut [u8], track: u8, found: usize, count: u8) -> usize
     let a = put_number(out, 0, b"track ", track as u64);
     let b = put_number(out, a, b" found ", found as u64);
     let c = put_number(out, b, b" of ", count as u64);
-    text::put_bytes(out, c, b"\n")
+    page_text::put_bytes(out, c, b"\n")
 }
 
 // The line of a refused input.
@@ -63,7 +63,7 @@ fn put_refused(out: &mut [u8], number: u8) -> usize
     ensures { λ r. ⌜ Put (now (out .entry)) 0 (refusedLine number) (now (out .exit)) r ⌝ }
 {
     let a = put_number(out, 0, b"refused ", number as u64);
-    text::put_bytes(out, a, b"\n")
+    page_text::put_bytes(out, a, b"\n")
 }
 
 // The line of a sector that was found.
@@ -72,11 +72,11 @@ fn put_line(out: &mut [u8], at: usize, sector: u8, sum: u8) -> usize
     requires { ⌜ sector < 100 ⌝ }
     ensures { λ r. ⌜ Put (now (out .entry)) at (sectorLine sector sum) (now (out .exit)) r ⌝ }
 {
-    let a = text::put_bytes(out, at, b"sector ");
-    let b = text::put_two_digits(out, a, sector);
-    let c = text::put_bytes(out, b, b" sum ");
-    let d = text::put_hex(out, c, sum);
-    text::put_bytes(out, d, b"\n")
+    let a = page_text::put_bytes(out, at, b"sector ");
+    let b = page_text::put_two_digits(out, a, sector);
+    let c = page_text::put_bytes(out, b, b" sum ");
+    let d = page_text::put_hex(out, c, sum);
+    page_text::put_bytes(out, d, b"\n")
 }
 
 // The line of a sector, where its status says that it was handed out.
@@ -131,7 +131,7 @@ fn put_ring(out: &mut [u8], ring: &[u8], track: u8, start: usize) -> usize
 {
     let mut payloads = [0u8; 5376];
     let mut statuses = [0u8; 21];
-    let answer = reading::decode_track_from(ring, track, start, &mut payloads, &mut statuses);
+    let answer = track_read::decode_track_from(ring, track, start, &mut payloads, &mut statuses);
     match answer {
         TrackRead::Found(found) => put_track(out, track, found, &statuses, &payloads),
         TrackRead::Refused(number) => put_refused(out, number),

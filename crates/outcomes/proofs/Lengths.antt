@@ -1,12 +1,11 @@
 -- How long the line is: it fits on the page that the program lends, so that by `printed` (pages) all of it is written.
--- Assumes nothing.
 use Prim.Native.Nat.{ℕ, _<_, _^_}
 use native.Mathlib.Omega.{arith}
 use lib.ListN.{length-append}
 use Rattle.pages.specs.Page.{allOf}
 use Rattle.pages.proofs.PageLaws.{Within}
-use Rattle.clearing.specs.declared.Outcome.the-variants.{Cleared, Refused}
-use Rattle.text.proofs.DecimalLaws.{decimal-width}
+use Rattle.reclaim.specs.declared.Outcome.the-variants.{Cleared, Refused}
+use Rattle.page_text.proofs.DecimalLaws.{decimal-width}
 use Rattle.outcomes.specs.Outcomes.{outcomeText}
 
 -- ---- what clearing answered: numbers of a machine

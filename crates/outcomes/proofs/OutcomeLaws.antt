@@ -1,13 +1,12 @@
 -- The line as it is put, text by text: p is the page before, and each equation is what one call adds.
--- Assumes nothing.
 use mathlib.Core.Path.{_≡_}
 use mathlib.Core.List.{[], _∷_}
 use Prim.Native.Nat.{ℕ}
 use Rattle.lines.specs.Line.{numberText, refusedText}
 use Rattle.pages.specs.Page.{ascii, Page, writes}
 use Rattle.pages.proofs.PageLaws.{then}
-use Rattle.clearing.specs.declared.Outcome.{Outcome}
-use Rattle.clearing.specs.declared.Outcome.the-variants.{Cleared, Refused}
+use Rattle.reclaim.specs.declared.Outcome.{Outcome}
+use Rattle.reclaim.specs.declared.Outcome.the-variants.{Cleared, Refused}
 use Rattle.outcomes.specs.Outcomes.{outcomeText}
 
 -- ---- what clearing answered

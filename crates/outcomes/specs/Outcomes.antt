@@ -2,8 +2,8 @@
 use mathlib.Core.List.{[], _∷_}
 use Rattle.lines.specs.Line.{numberText, refusedText}
 use Rattle.pages.specs.Page.{ascii, Text}
-use Rattle.clearing.specs.declared.Outcome.{Outcome}
-use Rattle.clearing.specs.declared.Outcome.the-variants.{Cleared, Refused}
+use Rattle.reclaim.specs.declared.Outcome.{Outcome}
+use Rattle.reclaim.specs.declared.Outcome.the-variants.{Cleared, Refused}
 
 -- what clearing answered
 abbrev pub outcomeText : Outcome → Text

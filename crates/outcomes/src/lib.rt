@@ -2,7 +2,7 @@
 ghost use mathlib.Core.Path.{_≡_};
 ghost use Rattle.pages.specs.Page.{sheet, writes};
 ghost use Rattle.outcomes.specs.Outcomes.{outcomeText};
-use clearing::Outcome;
+use reclaim::Outcome;
 
 // The line of what clearing answered.
 pub fn put_outcome(page: &mut [u8], at: usize, outcome: Outcome) -> usize

@@ -3,7 +3,6 @@
 --     long-enough              on a page that is long enough the pieces stand one after the other
 --     printed                  the bytes of such a page up to the place answered are the text's
 --     append-long, together-long   how long a text is, by its parts
--- Assumes nothing.
 use mathlib.Core.Path.{_≡_, refl, sym, ap, ap₂, _∙_}
 use mathlib.Core.List.{List, [], _∷_, _++_}
 use Prim.Native.Nat.{ℕ, zero, suc, _+_, _*_, _≤_, _<_}

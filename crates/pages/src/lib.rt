@@ -2,7 +2,7 @@
 ghost use mathlib.Core.Path.{_≡_};
 ghost use mathlib.Core.List.{[], _∷_};
 ghost use Rattle.lines.specs.Line.{numberText, refusedText};
-ghost use Rattle.text.specs.Numerals.{decimal as decimalText};
+ghost use Rattle.page_text.specs.Numerals.{decimal as decimalText};
 ghost use Rattle.pages.specs.Page.{sheet, writes};
 
 // Bytes as they are.
@@ -39,7 +39,7 @@ pub fn decimal(page: &mut [u8], at: usize, n: u64) -> usize
     ensures { λ r. ⌜ sheet (now (page .exit)) r ≡ writes (sheet (now (page .entry)) at) (decimalText n ∷ []) ⌝ }
 {
     let mut piece = [0u8; 20];
-    let end = text::put_decimal(&mut piece, 0, n);
+    let end = page_text::put_decimal(&mut piece, 0, n);
     lines::words(page, at, lines::so_far(&piece, end))
 }
 

@@ -1,5 +1,4 @@
 -- What the entry points find out before they clear: a law for each way out.
--- Assumes nothing.
 use mathlib.Core.Path.{_≡_, sym, subst}
 use mathlib.Core.Bool.{true, false}
 use mathlib.Core.List.{List}
@@ -15,13 +14,13 @@ use Rattle.sector.specs.declared.Sector.{Sector}
 use Rattle.image.specs.declared.Table.{Table}
 use Rattle.image.specs.Rings.{noTable}
 use Rattle.image.proofs.TableLaws.{AllInside, none-inside}
-use Rattle.medium.specs.declared.ImageKind.{ImageKind}
-use Rattle.medium.specs.declared.ImageKind.the-variants.{D64}
-use Rattle.directory.specs.Disk.{bamFree, disk1541}
-use Rattle.clearing.specs.Clearing.{refuse, clearing}
-use Rattle.medium.specs.Kinds.{d64Kind, ringsKind}
+use Rattle.image_sector.specs.declared.ImageKind.{ImageKind}
+use Rattle.image_sector.specs.declared.ImageKind.the-variants.{D64}
+use Rattle.reclaim_directory.specs.Disk.{bamFree, disk1541}
+use Rattle.reclaim.specs.Clearing.{refuse, clearing}
+use Rattle.image_sector.specs.Kinds.{d64Kind, ringsKind}
 use Rattle.reclaim.specs.Images.{byTracks, clearedD64, byTable}
-use Rattle.medium.specs.Contracts.{Complete}
+use Rattle.image_sector.specs.Contracts.{Complete}
 
 -- a D64 image by its size
 module _ (l : List ℕ) where

@@ -1,5 +1,4 @@
 -- Turns of the loops, and each way out of the rows O, P and C.
--- Assumes nothing.
 use mathlib.Core.Path.{_≡_, refl, ap, ap₂, _∙_}
 use mathlib.Core.List.{List, [], _∷_, _++_}
 use Prim.Native.Nat.{ℕ, suc, _+_, _-_, _/_, _%_, _^_, _≤_, _<_}
@@ -12,7 +11,7 @@ use Rattle.base.specs.Digits.{digits}
 use Rattle.base.specs.Lists.{tab}
 use Rattle.base.proofs.Lists.{length-tab, tab-none, tab-more, tab-all}
 use Rattle.base.proofs.Tests.{leb-yes, leb-no}
-use Rattle.vectors.specs.Draw.{stateAfter, byteOf}
+use Rattle.replay_shared.specs.Draw.{stateAfter, byteOf}
 use Rattle.replay.specs.Changes.{orDrawn, written, copiedUp, copied}
 
 -- ---- row O: what is or'ed in so far, and the rest

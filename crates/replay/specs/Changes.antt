@@ -9,7 +9,7 @@ use lib.Seq.{sets}
 use Rattle.base.specs.Choice.{pick}
 use Rattle.base.specs.Digits.{digits}
 use Rattle.base.specs.Lists.{tab, onPart}
-use Rattle.vectors.specs.Draw.{stateAfter, byteOf, drawn}
+use Rattle.replay_shared.specs.Draw.{stateAfter, byteOf, drawn}
 
 -- the n bytes from `at` on as f makes them, where there are so many
 unfoldable pub inPart : ℕ → ℕ → (List ℕ → List ℕ) → List ℕ → List ℕ

@@ -4,7 +4,7 @@ use mathlib.Core.List.{List}
 use lib.Dec.{eqb}
 use lib.ListN.{getD}
 use Rattle.base.specs.Choice.{pick}
-use Rattle.vectors.specs.Fields.{fieldAt}
+use Rattle.replay_shared.specs.Fields.{fieldAt}
 use Rattle.replay.specs.Changes.{stored, filled, orFilled, written, copied}
 use Rattle.replay.specs.declared.Row.{Row}
 

@@ -8,8 +8,8 @@ ghost use Rattle.base.specs.Digits.{digits};
 ghost use Rattle.replay.specs.Rows.{rowOf};
 ghost use Rattle.replay.specs.Rows.{changed};
 ghost use Rattle.replay.specs.Changes.{stored, filled, orDrawn, orFilled, written, copiedUp, copied};
-use vectors::draw;
-use vectors::fields;
+use replay_shared::draw;
+use replay_shared::fields;
 
 pub struct Row {
     pub letter: u8,
@@ -131,7 +131,7 @@ fn write(buf: &mut [u8], at: usize, n: usize, high: u32, low: u32)
         return;
     }
     let bytes = eight_bytes(high, low);
-    text::put_bytes(buf, at, &bytes[..n]);
+    page_text::put_bytes(buf, at, &bytes[..n]);
 }
 
 fn copy_up(buf: &mut [u8], at: usize, n: usize, from: usize)

@@ -1,5 +1,4 @@
 -- Each way out of the rows that change a ring.
--- Assumes nothing.
 use mathlib.Core.Path.{_≡_, _∙_}
 use mathlib.Core.Logic.{_≢_}
 use mathlib.Core.List.{List}

@@ -1,5 +1,4 @@
 -- Turns of the loops over a ring's bits, and the code of bytes written on a ring.
--- Assumes nothing.
 use mathlib.Core.Path.{_≡_, refl, sym, ap₂, _∙_}
 use mathlib.Core.List.{List, _++_}
 use Prim.Native.Nat.{ℕ, zero, suc, _+_, _-_, _*_, _/_, _%_, _≤_, _<_}
@@ -14,7 +13,7 @@ use Rattle.gcr.proofs.EncodeLaws.{length-encode}
 use Rattle.ring.specs.Bit.{bitAt, setBit}
 use Rattle.ring.specs.Run.{writeBits, writeBytes}
 use Rattle.ring.proofs.RingLaws.{length-setBit, writeBits-more, bit-lt}
-use Rattle.vectors.specs.Draw.{stateAfter}
+use Rattle.replay_shared.specs.Draw.{stateAfter}
 use Rattle.ringcraft.specs.Rings.{flipped}
 
 -- ---- bits written: none yet, one more

@@ -7,7 +7,7 @@ use Rattle.base.specs.Choice.{pick}
 use Rattle.gcr.specs.Groups.{encode}
 use Rattle.ring.specs.Bit.{bitAt, setBit}
 use Rattle.ring.specs.Run.{writeBits, writeBytes}
-use Rattle.vectors.specs.Draw.{stateAfter}
+use Rattle.replay_shared.specs.Draw.{stateAfter}
 use Rattle.replay.specs.declared.Row.{Row}
 
 -- the second where the first is a ring, else the first

@@ -7,7 +7,7 @@ ghost use Rattle.ring.specs.Bit.{IsRing};
 ghost use Rattle.ring.specs.Run.{writeBits};
 ghost use Rattle.ringcraft.specs.Rings.{bitsMade, flipped, bitsFlipped, codeWritten, ringChanged};
 use replay::Row;
-use vectors::draw;
+use replay_shared::draw;
 
 fn write_run(ring: &mut [u8], start: usize, n: usize, value: u8)
     requires { ⌜ IsRing (now ring) ⌝ }
@@ -87,7 +87,7 @@ fn write_code(ring: &mut [u8], bit: u32, bytes: &[u8])
     }
     let mut code = [0u8; 325];
     let n = bytes.len() / 4;
-    blocks::encode_groups(&mut code, 0, bytes, n);
+    gcr_blocks::encode_groups(&mut code, 0, bytes, n);
     write_front(ring, bit as usize, &code, 40 * n);
 }
 

@@ -3,16 +3,15 @@
 --     each-good    by the visit that gives it
 --     each-past    each record lies past the sync end that the scan comes to next
 --     all-spaced   each lies 2,600 bits or more after the one before
--- Assumes nothing.
 use Prim.Native.Nat.{ℕ, zero, suc, _+_, _≤_}
 use mathlib.Core.Path.{_≡_, refl, sym, subst}
 use mathlib.Core.Logic.{inl, inr}
 use mathlib.Core.List.{List, [], _∷_}
 use native.Mathlib.Omega.{arith}
-use Rattle.sync.specs.declared.SyncEnd.{SyncEnd}
-use Rattle.sync.specs.declared.SyncEnd.the-variants.{At, Nothing}
+use Rattle.scan_sync.specs.declared.SyncEnd.{SyncEnd}
+use Rattle.scan_sync.specs.declared.SyncEnd.the-variants.{At, Nothing}
 use Rattle.scan.specs.declared.SectorRecord.{SectorRecord}
-use Rattle.visit.specs.Visit.{visit}
+use Rattle.scan_visit.specs.Visit.{visit}
 use Rattle.scan.specs.Scan.{nextSync, recordsFrom}
 use Rattle.scan.proofs.StepLaws.{Step, skip, good, stepOf}
 use Rattle.scan.proofs.ScanLaws.{Every, Any, onStep, skip-on, good-on, next-found}

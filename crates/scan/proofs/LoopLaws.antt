@@ -1,5 +1,4 @@
 -- The ways round the loop that looks for the next record, by what the search and the decoders said.
--- Assumes nothing.
 use mathlib.Core.Path.{_≡_, refl, sym, ap, ap₂, _∙_}
 use mathlib.Core.List.{List, [], _∷_}
 use Prim.Native.Nat.{ℕ, _+_, _-_, _<_}
@@ -10,18 +9,18 @@ use Rattle.base.specs.Choice.{pick}
 use Rattle.base.specs.Lists.{xorOf}
 use Rattle.gcr.specs.Symbols.{Decoded, Bytes, IllegalAt}
 use Rattle.gcr.specs.Places.{decodeAt}
-use Rattle.sync.specs.declared.SyncEnd.{SyncEnd}
-use Rattle.sync.specs.declared.SyncEnd.the-variants.{At, Nothing}
-use Rattle.visit.specs.declared.HeaderAt.the-variants.{Sector, No}
-use Rattle.visit.specs.declared.DataAt.{DataAt}
-use Rattle.visit.specs.declared.DataAt.the-variants.{Good, Another, Bad}
-use Rattle.visit.specs.declared.DataBlock.{DataBlock}
-use Rattle.sync.specs.Sync.{syncEnd}
-use Rattle.visit.specs.Visit.{DataFound, BadData, AnotherHeader, GoodData, HeaderFound, BadHeader, TrueHeader}
-use Rattle.visit.specs.Visit.{FalseData, OtherMarker, at, payloadIn, byData, headerMark, byHeader, dataAt, bySync, dataFor, visit}
+use Rattle.scan_sync.specs.declared.SyncEnd.{SyncEnd}
+use Rattle.scan_sync.specs.declared.SyncEnd.the-variants.{At, Nothing}
+use Rattle.scan_visit.specs.declared.HeaderAt.the-variants.{Sector, No}
+use Rattle.scan_visit.specs.declared.DataAt.{DataAt}
+use Rattle.scan_visit.specs.declared.DataAt.the-variants.{Good, Another, Bad}
+use Rattle.scan_visit.specs.declared.DataBlock.{DataBlock}
+use Rattle.scan_sync.specs.Sync.{syncEnd}
+use Rattle.scan_visit.specs.Visit.{DataFound, BadData, AnotherHeader, GoodData, HeaderFound, BadHeader, TrueHeader}
+use Rattle.scan_visit.specs.Visit.{FalseData, OtherMarker, at, payloadIn, byData, headerMark, byHeader, dataAt, bySync, dataFor, visit}
 use Rattle.scan.specs.Scan.{recordsFrom}
-use Rattle.visit.specs.Answers.{headerAnswer, dataAnswer}
-use Rattle.visit.proofs.VisitLaws.{header→}
+use Rattle.scan_visit.specs.Answers.{headerAnswer, dataAnswer}
+use Rattle.scan_visit.proofs.VisitLaws.{header→}
 use Rattle.scan.proofs.StepLaws.{Step, skip, good, stepData, stepHeader, stepOf}
 use Rattle.scan.proofs.ScanLaws.{next-yes, onStep}
 use Rattle.scan.proofs.NextLaws.{visit-at, no-sync, at-sync}

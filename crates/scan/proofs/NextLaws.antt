@@ -2,7 +2,6 @@
 --     over                    past the end of the scan
 --     next-some, next-none    by the answer that `next_record` gives
 --     few-left                a caller that counts: at most 195 in all
--- Assumes nothing.
 use Prim.Native.Nat.{ℕ, zero, suc, _+_, _-_, _*_, _%_, _≤_, _<_}
 use mathlib.Core.Path.{_≡_, refl, sym, ap, _∙_, subst}
 use mathlib.Core.Bool.{true, false}
@@ -13,11 +12,11 @@ use Rattle.base.proofs.Lists.{length-tab, getD-tab}
 use Rattle.geometry.specs.Zones.{sectorsOf}
 use Rattle.gcr.proofs.DecodeLaws.{byteAt}
 use Rattle.ring.specs.Bit.{bits, bitAt}
-use Rattle.sync.specs.declared.SyncEnd.{SyncEnd}
-use Rattle.sync.specs.declared.SyncEnd.the-variants.{At, Nothing}
+use Rattle.scan_sync.specs.declared.SyncEnd.{SyncEnd}
+use Rattle.scan_sync.specs.declared.SyncEnd.the-variants.{At, Nothing}
 use Rattle.scan.specs.declared.SectorRecord.{SectorRecord}
 use Rattle.scan.specs.declared.NextRecord.{NextRecord}
-use Rattle.visit.specs.Visit.{visit}
+use Rattle.scan_visit.specs.Visit.{visit}
 use Rattle.scan.specs.Scan.{nextSync, recordsOf, recordsFrom, records}
 use Rattle.scan.specs.Answers.{nextOf}
 use Rattle.scan.proofs.StepLaws.{Step, skip, good, stepHeader, stepOf, Good, visit-good}

@@ -1,5 +1,4 @@
 -- The refusals of a scan, test by test.
--- Assumes nothing.
 use Prim.Native.Nat.{ℕ, _≤_, _<_}
 use mathlib.Core.Path.{_≡_, ap, ap₂}
 use mathlib.Core.Logic.{_⊎_, inl, inr}

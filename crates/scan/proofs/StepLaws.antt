@@ -1,7 +1,6 @@
 -- A visit, by what stands at its places.
 --     Step, stepOf          what a visit comes to: the scan goes on at a bit, or there is a record
 --     visit-good, visit-skip, visit-yes    what each says of the places, and what the places say of it
--- Assumes nothing.
 use mathlib.Core.Path.{_≡_, refl, sym, ap, _∙_, subst}
 use mathlib.Core.Logic.{_⊎_, inl, inr}
 use mathlib.Core.Bool.{Bool, true, false}
@@ -13,14 +12,14 @@ use Rattle.base.specs.Lists.{xorOf}
 use Rattle.gcr.specs.Symbols.{Decoded, Bytes, IllegalAt}
 use Rattle.gcr.specs.Places.{decodeAt}
 use Rattle.gcr.proofs.DecodeLaws.{byteAt}
-use Rattle.sync.specs.declared.SyncEnd.{SyncEnd}
-use Rattle.sync.specs.declared.SyncEnd.the-variants.{At, Nothing}
-use Rattle.sync.specs.Sync.{syncEnd}
-use Rattle.visit.specs.Visit.{DataFound, BadData, AnotherHeader, GoodData, HeaderFound, BadHeader, TrueHeader, Visit}
-use Rattle.visit.specs.Visit.{OtherMarker, FalseData}
-use Rattle.visit.specs.Visit.{at, payloadIn, byData, headerMark, dataAt, bySync, dataFor, byHeader, visit}
+use Rattle.scan_sync.specs.declared.SyncEnd.{SyncEnd}
+use Rattle.scan_sync.specs.declared.SyncEnd.the-variants.{At, Nothing}
+use Rattle.scan_sync.specs.Sync.{syncEnd}
+use Rattle.scan_visit.specs.Visit.{DataFound, BadData, AnotherHeader, GoodData, HeaderFound, BadHeader, TrueHeader, Visit}
+use Rattle.scan_visit.specs.Visit.{OtherMarker, FalseData}
+use Rattle.scan_visit.specs.Visit.{at, payloadIn, byData, headerMark, dataAt, bySync, dataFor, byHeader, visit}
 use Rattle.scan.specs.declared.SectorRecord.{SectorRecord}
-use Rattle.visit.proofs.VisitLaws.{Header, Told, header→, header←, Data, payloadAt, data→, data←, Mark, mark→, no-mark}
+use Rattle.scan_visit.proofs.VisitLaws.{Header, Told, header→, header←, Data, payloadAt, data→, data←, Mark, mark→, no-mark}
 
 -- ---- what a visit comes to
 pub data Step : Type 0 where

@@ -1,5 +1,4 @@
 -- Every sector of a built track stands apart (specs/ReadBack.antt), so what is written there is read back.
--- Assumes nothing.
 use mathlib.Core.Path.{_≡_, refl, sym, ap, ap₂, _∙_, subst}
 use mathlib.Core.Logic.{_⊎_, inl, inr}
 use mathlib.Core.Bool.{Bool, true, false, not}
@@ -18,12 +17,12 @@ use Rattle.geometry.specs.Zones.{zoneOf, sectorsIn, capacityIn, slotStart}
 use Rattle.geometry.proofs.ZoneLaws.{zone-lt, sectors-in, start-zero}
 use Rattle.gcr.proofs.EncodeLaws.{at, nibble, Bytes}
 use Rattle.ring.specs.Bit.{bits, bitAt}
-use Rattle.track.specs.Blocks.{headerBytes, dataBytes}
-use Rattle.track.specs.Slots.{codeOf, payloadOf, slot, builtTrack}
-use Rattle.track.proofs.Unrolled.{Track}
-use Rattle.track.proofs.SlotBits.{headed}
-use Rattle.track.proofs.TrackBits.{slotAt, st, ln, length-ring, ring-track}
-use Rattle.track.proofs.Meaning.{header-lt, data-long, data-lt, mark-is}
+use Rattle.track_build.specs.Blocks.{headerBytes, dataBytes}
+use Rattle.track_build.specs.Slots.{codeOf, payloadOf, slot, builtTrack}
+use Rattle.track_build.proofs.Unrolled.{Track}
+use Rattle.track_build.proofs.SlotBits.{headed}
+use Rattle.track_build.proofs.TrackBits.{slotAt, st, ln, length-ring, ring-track}
+use Rattle.track_build.proofs.Meaning.{header-lt, data-long, data-lt, mark-is}
 use Rattle.scan.specs.declared.SectorRecord.{SectorRecord}
 use Rattle.scan.specs.Scan.{recordsFrom}
 use Rattle.scan.proofs.ScanLaws.{Every, Any}

@@ -1,7 +1,6 @@
 -- The search for the copies of a sector: one record more, and what the rules make of what was found.
 --     copies-more                  the search after one record more
 --     search-..                    the search under way: its start, a turn, its end
--- Assumes nothing.
 use mathlib.Core.Path.{_≡_, refl, sym, ap, ap₂, _∙_}
 use mathlib.Core.Bool.{Bool, true, false, _&&_}
 use mathlib.Core.List.{List, [], _∷_, _++_, append-assoc, append-nil}

@@ -1,6 +1,5 @@
 -- What is read after a sector was replaced (specs/ReadBack.antt).
 --     unique-back, consistent-back    the statement, for both rules
--- Assumes nothing.
 use mathlib.Core.Path.{_≡_, refl, sym, ap, _∙_, subst}
 use mathlib.Core.Logic.{_≢_, _⊎_, inl, inr}
 use mathlib.Core.Bool.{Bool, true, false, true≢false}

@@ -1,7 +1,6 @@
 -- The scan of a ring whose data blocks of one sector were written anew: the same records, with the new payload in those.
 --     Rewritten    two rings of the same bits but in those blocks
 --     renewed-scan
--- Assumes nothing.
 use mathlib.Core.Path.{_≡_, refl, sym, ap, ap₂, _∙_, subst}
 use mathlib.Core.Logic.{_≢_, _⊎_, inl, inr, ⊎-elim}
 use mathlib.Core.Bool.{Bool}
@@ -14,17 +13,17 @@ use lib.ListN.{length, getD}
 use Rattle.base.specs.Choice.{pick}
 use Rattle.base.specs.Bits.{bitIn}
 use Rattle.base.proofs.Tests.{eqb-yes, eqb-no}
-use Rattle.sync.specs.declared.SyncEnd.{SyncEnd}
-use Rattle.sync.specs.declared.SyncEnd.the-variants.{At, Nothing}
+use Rattle.scan_sync.specs.declared.SyncEnd.{SyncEnd}
+use Rattle.scan_sync.specs.declared.SyncEnd.the-variants.{At, Nothing}
 use Rattle.scan.specs.declared.SectorRecord.{SectorRecord}
-use Rattle.visit.specs.Visit.{BadData, AnotherHeader, GoodData, HeaderFound, BadHeader, TrueHeader, Visit, visit, nextBit}
+use Rattle.scan_visit.specs.Visit.{BadData, AnotherHeader, GoodData, HeaderFound, BadHeader, TrueHeader, Visit, visit, nextBit}
 use Rattle.scan.specs.Scan.{nextSync, visits, recordsFrom}
 use Rattle.scan.proofs.StepLaws.{Step, skip, good, stepHeader, stepOf, visit-good}
 use Rattle.scan.proofs.ScanLaws.{next-yes, next-no, next-found, next-step, stepNext, skip-on, good-on}
 use Rattle.scan.proofs.ScanLaws.{visits-turn, visit-place, onStep, Every, Any}
 use Rattle.scan.proofs.NextLaws.{over, no-sync, at-sync}
 use Rattle.scan.proofs.EachRecord.{any-every, each-next, each-past}
-use Rattle.visit.proofs.SameBits.{sync-same, sync-at}
+use Rattle.scan_visit.proofs.SameBits.{sync-same, sync-at}
 use Rattle.sector.specs.Replacing.{dataBlock}
 use Rattle.sector.specs.ReadBack.{pastLook, Misses, Own, In, Each, renewed}
 use Rattle.sector.proofs.SameVisit.{visit-same, visit-renew}

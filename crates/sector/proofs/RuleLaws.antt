@@ -2,7 +2,6 @@
 --     unique-read, consistent-read    what the code makes of a search is what reading answers
 --     small-places                    the places found are small
 --     refused-by, rewritten-by        replacing: refused, and not
--- Assumes nothing.
 use mathlib.Core.Path.{_≡_, refl, sym, ap, _∙_, subst}
 use mathlib.Core.Bool.{Bool, true, false}
 use mathlib.Core.List.{List, [], _∷_, _++_}

@@ -1,7 +1,6 @@
 -- A visit by the bits that it looks at.
 --     visit-same     where they are the same, so is the visit
 --     visit-renew    a visit to a record whose data block was written anew
--- Assumes nothing.
 use mathlib.Core.Path.{_≡_, refl, sym, ap, ap₂, _∙_, subst}
 use mathlib.Core.Bool.{Bool, true, false}
 use mathlib.Core.List.{List, [], _∷_, _++_}
@@ -19,19 +18,19 @@ use Rattle.base.proofs.Lists.{is-tab}
 use Rattle.gcr.specs.Symbols.{Decoded, Bytes, IllegalAt, symbol}
 use Rattle.gcr.specs.Places.{decodeAt}
 use Rattle.gcr.proofs.DecodeLaws.{byteAt}
-use Rattle.blocks.proofs.RoundTrips.{placed, groups-back}
-use Rattle.track.specs.Blocks.{dataBytes}
-use Rattle.track.proofs.Meaning.{data-long, data-lt}
-use Rattle.sync.specs.declared.SyncEnd.{SyncEnd}
-use Rattle.sync.specs.declared.SyncEnd.the-variants.{At, Nothing}
+use Rattle.gcr_blocks.proofs.RoundTrips.{placed, groups-back}
+use Rattle.track_build.specs.Blocks.{dataBytes}
+use Rattle.track_build.proofs.Meaning.{data-long, data-lt}
+use Rattle.scan_sync.specs.declared.SyncEnd.{SyncEnd}
+use Rattle.scan_sync.specs.declared.SyncEnd.the-variants.{At, Nothing}
 use Rattle.scan.specs.declared.SectorRecord.{SectorRecord}
-use Rattle.sync.specs.Sync.{syncEnd}
-use Rattle.visit.specs.Visit.{DataFound, BadData, AnotherHeader, GoodData, OtherMarker, FalseData, HeaderFound, BadHeader, TrueHeader}
-use Rattle.visit.specs.Visit.{at, payloadIn, byData, headerMark, dataAt, bySync, dataFor, byHeader, visit}
-use Rattle.visit.proofs.VisitLaws.{header→, header←, data→}
+use Rattle.scan_sync.specs.Sync.{syncEnd}
+use Rattle.scan_visit.specs.Visit.{DataFound, BadData, AnotherHeader, GoodData, OtherMarker, FalseData, HeaderFound, BadHeader, TrueHeader}
+use Rattle.scan_visit.specs.Visit.{at, payloadIn, byData, headerMark, dataAt, bySync, dataFor, byHeader, visit}
+use Rattle.scan_visit.proofs.VisitLaws.{header→, header←, data→}
 use Rattle.scan.proofs.StepLaws.{Good, good, stepOf, visit-yes}
 use Rattle.scan.proofs.ScanLaws.{found-sync}
-use Rattle.visit.proofs.SameBits.{Agree, sync-same, sync-from, sync-at, decode-same, withData, header-same}
+use Rattle.scan_visit.proofs.SameBits.{Agree, sync-same, sync-from, sync-at, decode-same, withData, header-same}
 use Rattle.sector.specs.Replacing.{dataBlock}
 use Rattle.sector.specs.ReadBack.{pastData, pastHeader, pastLook}
 

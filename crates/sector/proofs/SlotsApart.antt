@@ -1,6 +1,5 @@
 -- The visits of an unrolled track: each looks at nothing outside its slot, and a good one is at its slot's header.
 --     all-spared    a visit that is not a sector's own misses the sector's data blocks
--- Assumes nothing.
 use mathlib.Core.Path.{_≡_, refl, sym, ap, _∙_, subst}
 use mathlib.Core.Logic.{_≢_, _⊎_, inl, inr, ⊎-elim}
 use mathlib.Core.Bool.{Bool}
@@ -9,16 +8,16 @@ use Prim.Native.Nat.{ℕ, zero, suc, _+_, _-_, _≤_, _<_}
 use native.Mathlib.Omega.{arith}
 use native.Mathlib.Decide.{decLt, ℕ-discrete}
 use Rattle.gcr.specs.Places.{decodeAt}
-use Rattle.track.proofs.Unrolled.{Track, Place, at-header, at-block, Ones10, Found, ten-ones}
-use Rattle.sync.specs.declared.SyncEnd.{SyncEnd}
-use Rattle.sync.specs.declared.SyncEnd.the-variants.{At, Nothing}
+use Rattle.track_build.proofs.Unrolled.{Track, Place, at-header, at-block, Ones10, Found, ten-ones}
+use Rattle.scan_sync.specs.declared.SyncEnd.{SyncEnd}
+use Rattle.scan_sync.specs.declared.SyncEnd.the-variants.{At, Nothing}
 use Rattle.scan.specs.declared.SectorRecord.{SectorRecord}
-use Rattle.sync.specs.Sync.{syncEnd}
-use Rattle.visit.specs.Visit.{DataFound, BadData, AnotherHeader, GoodData, HeaderFound, BadHeader, TrueHeader, Visit}
-use Rattle.visit.specs.Visit.{bySync, dataFor, byHeader, visit, nextBit}
+use Rattle.scan_sync.specs.Sync.{syncEnd}
+use Rattle.scan_visit.specs.Visit.{DataFound, BadData, AnotherHeader, GoodData, HeaderFound, BadHeader, TrueHeader, Visit}
+use Rattle.scan_visit.specs.Visit.{bySync, dataFor, byHeader, visit, nextBit}
 use Rattle.scan.specs.Scan.{nextSync, visits, recordsFrom}
-use Rattle.sync.proofs.SyncLaws.{SyncAt}
-use Rattle.visit.proofs.VisitLaws.{header→}
+use Rattle.scan_sync.proofs.SyncLaws.{SyncAt}
+use Rattle.scan_visit.proofs.VisitLaws.{header→}
 use Rattle.scan.proofs.StepLaws.{Step, skip, good, stepHeader, stepOf, visit-good}
 use Rattle.scan.proofs.ScanLaws.{found-sync, next-found, next-step, stepNext, visit-place, visit-on, skip-on, good-on}
 use Rattle.scan.proofs.ScanLaws.{visits-end, visits-none, visits-turn, onStep, Every, Any}

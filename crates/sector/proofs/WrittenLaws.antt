@@ -1,7 +1,6 @@
 -- A block written at several places, one after the other.
 --     block-laid                   the data block as the code has it
 --     written-turn, written-all    a turn of the writing, and its end
--- Assumes nothing.
 use mathlib.Core.Path.{_≡_, _∙_}
 use mathlib.Core.List.{List, append-nil}
 use Prim.Native.Nat.{ℕ, _+_, _-_, _≤_, _<_}
@@ -13,7 +12,7 @@ use Rattle.base.proofs.InRow.{sets-front}
 use Rattle.gcr.specs.Groups.{encode}
 use Rattle.gcr.proofs.EncodeLaws.{length-encode}
 use Rattle.ring.specs.Run.{writeBytes}
-use Rattle.track.specs.Blocks.{dataBytes}
+use Rattle.track_build.specs.Blocks.{dataBytes}
 use Rattle.sector.specs.Replacing.{dataBlock, writtenAt}
 
 pub block-laid : (payload out block : List ℕ) → length out ≡ 325 → block ≡ sets out 0 (encode 65 (dataBytes 1 payload))

@@ -8,10 +8,10 @@ use lib.Dec.{eqb}
 use lib.ListN.{length, getD}
 use Rattle.base.specs.Choice.{pick}
 use Rattle.ring.specs.Bit.{bits}
-use Rattle.track.specs.Slots.{builtTrack}
+use Rattle.track_build.specs.Slots.{builtTrack}
 use Rattle.scan.specs.declared.SectorRecord.{SectorRecord}
-use Rattle.visit.specs.Visit.{DataFault, NoSync, IllegalData, OtherMarker, FalseData, DataFound, BadData, AnotherHeader, GoodData}
-use Rattle.visit.specs.Visit.{HeaderFound, BadHeader, TrueHeader, Visit}
+use Rattle.scan_visit.specs.Visit.{DataFault, NoSync, IllegalData, OtherMarker, FalseData, DataFound, BadData, AnotherHeader, GoodData}
+use Rattle.scan_visit.specs.Visit.{HeaderFound, BadHeader, TrueHeader, Visit}
 use Rattle.scan.specs.Scan.{visitsOf}
 use Rattle.sector.specs.declared.Sector.{Sector}
 use Rattle.sector.specs.Rules.{good, recordsIn, recordsFor, readBy}

@@ -2,8 +2,8 @@
 use libc::STDIN_FILENO;
 use libc::STDOUT_FILENO;
 use replay::Row;
-use track::Built;
-use vectors::sum;
+use replay_shared::sum;
+use track_build::Built;
 
 // A line with its end, written.
 fn write(line: &mut [u8], at: usize) {
@@ -64,6 +64,6 @@ fn run(target: &mut [u8], source: &mut [u8]) {
 
 fn main() {
     let mut target = [0u8; 8192];
-    let mut source = room::disk();
+    let mut source = desk_room::disk();
     run(&mut target, &mut source);
 }

@@ -3,10 +3,10 @@ ghost use Prim.Native.Nat.{_<_, _≤_};
 ghost use lib.ListN.{length};
 use libc::STDIN_FILENO;
 use libc::STDOUT_FILENO;
-use nib::Zone;
-use nibfile::Encoded;
+use nib_slots::Zone;
+use nib_write::Encoded;
 use replay::Row;
-use vectors::sum;
+use replay_shared::sum;
 
 // A line with its end, written.
 fn write(line: &mut [u8], at: usize) {
@@ -21,8 +21,8 @@ struct Slots {
 
 // The checksum with a slot more: its zone, its length, its ring.
 fn mix_slot(so_far: Slots, file: &[u8], slot: usize) -> Slots {
-    let zone = nib::nib_zone(file, slot);
-    let ring = nib::nib_ring(file, slot);
+    let zone = nib_slots::nib_zone(file, slot);
+    let ring = nib_slots::nib_ring(file, slot);
     let z = match zone {
         Zone::Is(z) => z,
         Zone::Refused(_) => 0,
@@ -49,7 +49,7 @@ fn all_slots(file: &[u8]) -> Slots {
 }
 
 fn tell_slots(line: &mut [u8], file: &[u8]) -> usize {
-    let zone = nib::nib_zone(file, 0);
+    let zone = nib_slots::nib_zone(file, 0);
     match zone {
         Zone::Refused(n) => lines::refused(line, 0, n),
         Zone::Is(_) => {
@@ -69,11 +69,11 @@ fn whole(target: &[u8], row: Row) {
 }
 
 fn tell_slot(line: &mut [u8], file: &[u8], slot: usize) -> usize {
-    let zone = nib::nib_zone(file, slot);
+    let zone = nib_slots::nib_zone(file, slot);
     match zone {
         Zone::Refused(n) => lines::refused(line, 0, n),
         Zone::Is(z) => {
-            let ring = nib::nib_ring(file, slot);
+            let ring = nib_slots::nib_ring(file, slot);
             let mut at = lines::words(line, 0, b"zone");
             at = lines::number(line, at, z as u64);
             at = lines::words(line, at, b" length");
@@ -129,7 +129,10 @@ fn encode_into(room: &mut [u8], source: &[u8], row: Row, lengths: &[u64]) {
     let zones = assembly::part(source, 210944, row.f as usize);
     let rings = assembly::part(source, row.c as usize, row.d as usize);
     let mut line = [0u8; 128];
-    let mut at = tell_encoded(&mut line, nibfile::encode_nib(lengths, zones, rings, room));
+    let mut at = tell_encoded(
+        &mut line,
+        nib_write::encode_nib(lengths, zones, rings, room),
+    );
     at = lines::sum(&mut line, at, sum::mix_all(sum::START, room));
     write(&mut line, at);
 }
@@ -194,7 +197,7 @@ fn run(target: &mut [u8], source: &mut [u8]) {
 }
 
 fn main() {
-    let mut target = room::image();
-    let mut source = room::disk();
+    let mut target = desk_room::image();
+    let mut source = desk_room::disk();
     run(&mut target, &mut source);
 }

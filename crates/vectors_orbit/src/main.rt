@@ -11,7 +11,7 @@ fn write(line: &mut [u8], at: usize) {
 
 fn span(target: &[u8], row: Row) {
     let window = assembly::part(target, row.a as usize, row.b as usize);
-    let ring = orbit::recover_orbit(window, (row.c % 256) as u8);
+    let ring = nib_orbit::recover_orbit(window, (row.c % 256) as u8);
     let mut line = [0u8; 128];
     let mut at = lines::words(&mut line, 0, b"span");
     at = lines::number(&mut line, at, ring.len() as u64);
@@ -51,6 +51,6 @@ fn run(target: &mut [u8], source: &mut [u8]) {
 
 fn main() {
     let mut target = [0u8; 16384];
-    let mut source = room::disk();
+    let mut source = desk_room::disk();
     run(&mut target, &mut source);
 }

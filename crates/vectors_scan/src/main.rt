@@ -2,10 +2,10 @@
 ghost use Prim.Native.Nat.{_<_, _≤_};
 use libc::STDIN_FILENO;
 use libc::STDOUT_FILENO;
-use reading::TrackRead;
 use replay::Row;
+use replay_shared::sum;
 use scan::Scanned;
-use vectors::sum;
+use track_read::TrackRead;
 
 // A line with its end, written.
 fn write(line: &mut [u8], at: usize) {
@@ -117,7 +117,7 @@ fn read(target: &[u8], row: Row) {
     let mut payloads = [0u8; 5376];
     let mut statuses = [0u8; 21];
     let track = (row.c % 256) as u8;
-    let answer = reading::decode_track_from(
+    let answer = track_read::decode_track_from(
         ring,
         track,
         start_of(row),
@@ -168,7 +168,7 @@ fn run(target: &mut [u8], source: &mut [u8]) {
 }
 
 fn main() {
-    let mut target = room::disk();
-    let mut source = room::disk();
+    let mut target = desk_room::disk();
+    let mut source = desk_room::disk();
     run(&mut target, &mut source);
 }

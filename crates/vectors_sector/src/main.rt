@@ -2,9 +2,9 @@
 use libc::STDIN_FILENO;
 use libc::STDOUT_FILENO;
 use replay::Row;
+use replay_shared::sum;
 use sector::Replaced;
 use sector::Sector;
-use vectors::sum;
 
 // A line with its end, written.
 fn write(line: &mut [u8], at: usize) {
@@ -118,7 +118,7 @@ fn run(target: &mut [u8], source: &mut [u8]) {
 }
 
 fn main() {
-    let mut target = room::disk();
-    let mut source = room::disk();
+    let mut target = desk_room::disk();
+    let mut source = desk_room::disk();
     run(&mut target, &mut source);
 }

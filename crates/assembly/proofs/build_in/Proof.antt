@@ -2,7 +2,7 @@ use borrow.Author.Needs.{needs}
 use Prim.Native.Nat.{ℕ, _/_, _%_}
 use mathlib.Core.Path.{ap, ap₂, _∙_}
 use mathlib.Core.List.{List}
-use Rattle.track.specs.Answers.{built, outAfter}
+use Rattle.track_build.specs.Answers.{built, outAfter}
 use Rattle.assembly.specs.Tracks.{trackOf}
 use Rattle.assembly.proofs.build_in.Statement.{statement}
 use Rattle.assembly.proofs.build_in.Tie as tie

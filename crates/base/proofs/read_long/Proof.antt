@@ -1,4 +1,4 @@
-use Rattle.base.specs.Bytes.{long}
+use Rattle.base.specs.Bytes.{fourBytes}
 use native.Mathlib.Omega.{arith}
 use borrow.Author.Needs.{needs}
 use Rattle.base.proofs.read_long.Statement.{statement}
@@ -20,7 +20,7 @@ add-result : tie.Need-add-result
 add-result c = search needs
 
 returns : tie.Need-returns
-unfolding long
+unfolding fourBytes
 returns c = omega arith
 
 pub read-long-spec : {M : Type 1} → statement M

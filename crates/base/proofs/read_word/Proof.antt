@@ -1,4 +1,4 @@
-use Rattle.base.specs.Bytes.{word}
+use Rattle.base.specs.Bytes.{twoBytes}
 use native.Mathlib.Omega.{arith}
 use borrow.Author.Needs.{needs}
 use Rattle.base.proofs.read_word.Statement.{statement}
@@ -26,7 +26,7 @@ add-result : tie.Need-add-result
 add-result c = search needs
 
 returns : tie.Need-returns
-unfolding word
+unfolding twoBytes
 returns c = omega arith
 
 pub read-word-spec : {M : Type 1} → statement M

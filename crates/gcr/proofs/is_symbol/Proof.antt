@@ -5,11 +5,9 @@ use Rattle.gcr.proofs.is_symbol.Tie as tie
 use Rattle.gcr.proofs.is_symbol.Reads as reads
 use Rattle.gcr.proofs.is_symbol.Lts as lts
 
--- src/lib.rt:113:6
 shr-result : tie.Need-shr-result
 shr-result c = search needs
 
--- src/lib.rt:109:1
 returns : tie.Need-returns
 returns c = mark-is (c .args .code) (c .pre)
 

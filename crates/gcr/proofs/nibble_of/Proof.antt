@@ -21,23 +21,18 @@ row-here c =
     (λ w. let e = ltb-no (c .before .args .code) 16 (w .0 .left) in rw e (w .1))
     (c .if1 .came)
 
--- src/lib.rt:122:15
 mul-result : tie.Need-mul-result
 mul-result c = omega (arith, and-mask (c .before .args .code) 4)
 
--- src/lib.rt:122:15
 cast-result : tie.Need-cast-result
 cast-result c = omega (arith, and-mask (c .before .args .code) 4)
 
--- src/lib.rt:122:7
 shr-result : tie.Need-shr-result
 shr-result c = omega (arith, and-mask (c .before .before .args .code) 4)
 
--- src/lib.rt:122:5
 cast-result-2 : tie.Need-cast-result-2
 cast-result-2 c = omega (arith, and-mask (c .before .if1 .row / 2 ^ (4 * bitAnd (code-of c) 15)) 4)
 
--- src/lib.rt:117:1
 returns : tie.Need-returns
 returns c =
     ap (λ (y : ℕ). bitAnd (y / 2 ^ (4 * bitAnd (code-of c) 15)) 15) (row-here (c .before))

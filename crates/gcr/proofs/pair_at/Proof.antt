@@ -6,23 +6,18 @@ use Rattle.gcr.proofs.pair_at.Lts as lts
 use Rattle.gcr.proofs.field5.Reads as field5-reads
 use Rattle.gcr.proofs.join_codes.Reads as join-codes-reads
 
--- src/lib.rt:170:29
 add-field5 : tie.Need-add-field5
 add-field5 c = search needs
 
--- src/lib.rt:170:16
 field5-requires : tie.Need-field5-requires
 field5-requires c κs = search needs
 
--- src/lib.rt:170:38
 field5-requires-2 : tie.Need-field5-requires-2
 field5-requires-2 c κs = search needs
 
--- src/lib.rt:170:5
 join-codes-requires : tie.Need-join-codes-requires
 join-codes-requires c κs = search needs
 
--- src/lib.rt:166:1
 returns : tie.Need-returns
 returns c = cc
 

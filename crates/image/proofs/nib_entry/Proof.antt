@@ -1,6 +1,6 @@
-use Rattle.catalogue.specs.declared.Entry.the-variants.{At as Pair}
-use Rattle.catalogue.specs.Catalogue.{placeOf}
-use Rattle.catalogue.proofs.Cataloguing.{counted, place-in}
+use Rattle.nib_catalogue.specs.declared.Entry.the-variants.{At as Pair}
+use Rattle.nib_catalogue.specs.Catalogue.{placeOf}
+use Rattle.nib_catalogue.proofs.Cataloguing.{counted, place-in}
 use Rattle.image.proofs.NibLaws.{window-is, window-absent, window-refused}
 use Prim.Native.Nat.{_+_, _<_}
 use mathlib.Core.Path.{_≡_, sym, _∙_}

@@ -4,8 +4,8 @@ use mathlib.Core.Path.{_∙_}
 use native.Mathlib.Omega.{arith}
 use lib.ListN.{length, replicate}
 use mathlib.Core.List.{_++_}
-use Rattle.text.specs.Numerals.{decimal}
-use Rattle.text.proofs.DecimalLaws.{decimal-width}
+use Rattle.page_text.specs.Numerals.{decimal}
+use Rattle.page_text.proofs.DecimalLaws.{decimal-width}
 use Rattle.lines.proofs.LineLaws.{two-texts, renamed}
 use Rattle.lines.proofs.labelled.Statement.{statement}
 use Rattle.lines.proofs.labelled.Tie as tie

@@ -5,8 +5,8 @@ use mathlib.Core.List.{List, [], _∷_, _++_}
 use native.Mathlib.Omega.{arith}
 use lib.ListN.{length, replicate}
 use lib.Seq.{take-all}
-use Rattle.text.specs.Numerals.{hexOf}
-use Rattle.text.proofs.HexLaws.{length-hex}
+use Rattle.page_text.specs.Numerals.{hexOf}
+use Rattle.page_text.proofs.HexLaws.{length-hex}
 use Rattle.lines.proofs.LineLaws.{two-texts, renamed}
 use Rattle.lines.proofs.sum.Statement.{statement}
 use Rattle.lines.proofs.sum.Tie as tie

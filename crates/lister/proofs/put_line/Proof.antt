@@ -1,6 +1,6 @@
 use borrow.Author.Needs.{needs}
 use native.Mathlib.Omega.{arith}
-use Rattle.text.proofs.HexLaws.{length-hex, length-two}
+use Rattle.page_text.proofs.HexLaws.{length-hex, length-two}
 use Rattle.lister.proofs.Putting.{sector-put}
 use Rattle.lister.proofs.put_line.Statement.{statement}
 use Rattle.lister.proofs.put_line.Tie as tie

@@ -1,6 +1,6 @@
 use borrow.Author.Needs.{needs}
-use Rattle.text.specs.Numerals.{decimal}
-use Rattle.text.proofs.PutLaws.{put-more}
+use Rattle.page_text.specs.Numerals.{decimal}
+use Rattle.page_text.proofs.PutLaws.{put-more}
 use Rattle.lister.proofs.put_number.Statement.{statement}
 use Rattle.lister.proofs.put_number.Tie as tie
 

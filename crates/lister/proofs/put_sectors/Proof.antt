@@ -3,7 +3,7 @@ use mathlib.Core.Path.{_≡_, refl, _∙_, subst}
 use native.Mathlib.Omega.{arith}
 use borrow.Author.Needs.{needs}
 use lib.ListN.{length}
-use Rattle.text.specs.Put.{Put}
+use Rattle.page_text.specs.Put.{Put}
 use Rattle.lister.specs.Lines.{lines}
 use Rattle.lister.proofs.Putting.{lines-none, lines-more, lines-long}
 use Rattle.lister.proofs.put_sectors.Statement.{statement}

@@ -3,8 +3,8 @@ use mathlib.Core.List.{_++_}
 use Prim.Native.Nat.{ℕ}
 use native.Mathlib.Omega.{arith}
 use borrow.Author.Needs.{needs}
-use Rattle.text.specs.Put.{Put}
-use Rattle.text.proofs.PutLaws.{put-more}
+use Rattle.page_text.specs.Put.{Put}
+use Rattle.page_text.proofs.PutLaws.{put-more}
 use Rattle.lister.specs.Listing.{headLine}
 use Rattle.lister.specs.Lines.{lines}
 use Rattle.lister.proofs.Putting.{head-long}

@@ -2,8 +2,8 @@ use Prim.Native.Nat.{_≤_}
 use mathlib.Core.Path.{_∙_}
 use native.Mathlib.Omega.{arith}
 use lib.ListN.{length, replicate}
-use Rattle.text.specs.Numerals.{decimal}
-use Rattle.text.proofs.DecimalLaws.{decimal-width}
+use Rattle.page_text.specs.Numerals.{decimal}
+use Rattle.page_text.proofs.DecimalLaws.{decimal-width}
 use Rattle.lines.proofs.LineLaws.{front}
 use Rattle.pages.proofs.PageLaws.{one-piece, named}
 use borrow.Author.Needs.{needs}

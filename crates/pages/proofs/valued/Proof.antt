@@ -1,5 +1,5 @@
 use mathlib.Core.List.{[], _∷_}
-use Rattle.text.specs.Numerals.{decimal as decimalText}
+use Rattle.page_text.specs.Numerals.{decimal as decimalText}
 use Rattle.pages.specs.Page.{sheet}
 use Rattle.pages.proofs.PageLaws.{then}
 use borrow.Author.Needs.{needs}

@@ -2,7 +2,7 @@ use Rattle.reclaim.proofs.EntrySteps.{no-rings, as-rings, rings-complet
 use Rattle.image.specs.G64.{g64Table}
 use Rattle.image.proofs.TableLaws.{g64-inside}
 use Rattle.sector.specs.Rules.{unique}
-use Rattle.medium.specs.declared.ImageKind.the-variants.{G64}
+use Rattle.image_sector.specs.declared.ImageKind.the-variants.{G64}
 use Rattle.reclaim.specs.Images.{byTable, clearedG64}
 use lib.ListN.{length}
 use Prim.Native.Nat.{ℕ}

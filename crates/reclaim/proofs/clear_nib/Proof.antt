@@ -2,7 +2,7 @@ use Rattle.reclaim.proofs.EntrySteps.{no-rings, as-rings, rings-complet
 use Rattle.image.specs.Nib.{nibTable}
 use Rattle.image.proofs.TableLaws.{nib-inside}
 use Rattle.sector.specs.Rules.{consistent}
-use Rattle.medium.specs.declared.ImageKind.the-variants.{Nib}
+use Rattle.image_sector.specs.declared.ImageKind.the-variants.{Nib}
 use Rattle.reclaim.specs.Images.{byTable, clearedNib}
 use lib.ListN.{length}
 use Prim.Native.Nat.{ℕ}

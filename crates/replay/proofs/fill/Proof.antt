@@ -1,6 +1,6 @@
 use borrow.Author.Needs.{needs}
 use lib.ListN.{length}
-use Rattle.vectors.specs.Draw.{drawn}
+use Rattle.replay_shared.specs.Draw.{drawn}
 use native.Mathlib.Omega.{arith}
 use Rattle.replay.proofs.PartLaws.{kept, done}
 use Rattle.replay.proofs.fill.Statement.{statement}

@@ -3,8 +3,8 @@ use mathlib.Core.Path.{_≡_, refl}
 use Prim.Native.Nat.{_-_, _≤_}
 use native.Mathlib.Omega.{arith}
 use lib.ListN.{length, length-set}
-use Rattle.vectors.specs.Draw.{stateAfter}
-use Rattle.vectors.proofs.DrawLaws.{state-none, state-more}
+use Rattle.replay_shared.specs.Draw.{stateAfter}
+use Rattle.replay_shared.proofs.DrawLaws.{state-none, state-more}
 use Rattle.replay.proofs.RowLaws.{orFront, or-none, or-more, or-all}
 use Rattle.replay.proofs.or_all.Statement.{statement}
 use Rattle.replay.proofs.or_all.Tie as tie

@@ -12,35 +12,28 @@ use Rattle.ring.proofs.force_zero.Reads as reads
 use Rattle.ring.proofs.force_zero.Lts as lts
 use Rattle.ring.proofs.zero_bits.Reads as zero-bits-reads
 
--- src/lib.rt:107:9
 returns : tie.Need-returns
 returns c = let a = c .before .before .args in refused-empty (now (a .ring)) (a .start) (a .«length») (omega arith)
 
--- src/lib.rt:110:9
 returns-2 : tie.Need-returns-2
 returns-2 c = let a = c .before .before .before .args in refused-long (now (a .ring)) (a .start) (a .«length») (c .before .if1 .left)
     (omega arith)
 
--- src/lib.rt:112:16
 mul-bits : tie.Need-mul-bits
 mul-bits c = search needs
 
--- src/lib.rt:113:16
 rem-from : tie.Need-rem-from
 rem-from c = search needs
 
--- src/lib.rt:115:9
 zero-bits-requires : tie.Need-zero-bits-requires
 zero-bits-requires c κs =
     let a = c .before .before .before .before .before .args in
     let p : 0 < length (now (a .ring)) = omega arith in
     (record { some = p; small = omega arith }, omega (arith, mod-lt (a .start) (many (now (a .ring)) 0 p)))
 
--- src/lib.rt:116:9
 same-length : tie.Need-same-length
 same-length c = search needs
 
--- src/lib.rt:116:9
 returns-3 : tie.Need-returns-3
 returns-3 c =
     let a = c .before .before .before .before .before .before .before .before .args in
@@ -50,18 +43,15 @@ returns-3 c =
     ∙ once-round (now (a .ring)) p (λ k. c .before .before .before .before .before .before .before .slice-known .given k .fits)
     (a .start) (a .«length») _ (λ l. absurd (omega arith)) (λ l. refl))
 
--- src/lib.rt:118:5
 zero-bits-requires-2 : tie.Need-zero-bits-requires-2
 zero-bits-requires-2 c κs =
     let a = c .before .before .before .before .before .args in
     let p : 0 < length (now (a .ring)) = omega arith in
     (record { some = p; small = omega arith }, omega (arith, mod-lt (a .start) (many (now (a .ring)) 0 p)))
 
--- src/lib.rt:103:1
 same-length-2 : tie.Need-same-length-2
 same-length-2 c = search needs
 
--- src/lib.rt:103:1
 returns-4 : tie.Need-returns-4
 returns-4 c =
     let a = c .before .before .before .before .before .before .before .before .args in

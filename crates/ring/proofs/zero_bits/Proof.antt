@@ -20,28 +20,22 @@ Inv-loop ring₀ start n k₀ ring k = (k ≤ n) × (ring ≡ writeBits ring₀ 
 abbrev μ-loop : tie.MeasureT-loop
 μ-loop ring₀ start n k₀ ring k = n - k
 
--- src/lib.rt:97:5
 loop-holds : tie.Need-loop-holds Inv-loop μ-loop
 loop-holds c = (omega arith, unfold writeBits in refl)
 
--- src/lib.rt:98:25
 add-write-bit : tie.Need-add-write-bit Inv-loop μ-loop
 add-write-bit c = omega arith
 
--- src/lib.rt:98:9
 write-bit-requires : tie.Need-write-bit-requires Inv-loop μ-loop
 write-bit-requires c κs =
     ring-kept (ap length (c .before .before .loop .inv .1) ∙ length-writeBits _ _ _ _) (c .before .before .before .before .pre .0)
 
--- src/lib.rt:97:9
 add-k : tie.Need-add-k Inv-loop μ-loop
 add-k c = omega arith
 
--- src/lib.rt:97:5
 loop-less : tie.Need-loop-less Inv-loop μ-loop
 loop-less c = omega arith
 
--- src/lib.rt:97:5
 loop-again : tie.Need-loop-again Inv-loop μ-loop
 loop-again c =
     let l = c .before .before .before .before .before .loop in
@@ -51,11 +45,9 @@ loop-again c =
           ∙ sym (writeBits-more (now (a .ring)) (a .start) (λ j. 0) (l .k)),
     )
 
--- src/lib.rt:92:1
 same-length : tie.Need-same-length Inv-loop μ-loop
 same-length c = ap length (c .before .loop .inv .1) ∙ length-writeBits _ _ _ _
 
--- src/lib.rt:92:1
 returns : tie.Need-returns Inv-loop μ-loop
 unfolding forceToZero
 returns c = c .before .loop .inv .1 ∙ ap (writeBits _ _ _) (omega arith)

@@ -4,8 +4,8 @@ use mathlib.Core.Path.{_≡_, ap, _∙_}
 use native.Mathlib.Omega.{arith}
 use lib.ListN.{length}
 use Rattle.ring.proofs.RingLaws.{ring-kept}
-use Rattle.vectors.specs.Draw.{stateAfter}
-use Rattle.vectors.proofs.DrawLaws.{state-none, state-more}
+use Rattle.replay_shared.specs.Draw.{stateAfter}
+use Rattle.replay_shared.proofs.DrawLaws.{state-none, state-more}
 use Rattle.ringcraft.specs.Rings.{flipped}
 use Rattle.ring.proofs.RingLaws.{bit-lt}
 use Rattle.ringcraft.proofs.RunLaws.{flip-none, flip-more, length-flipped}

@@ -5,12 +5,12 @@ use mathlib.Core.Path.{_≡_, refl, sym, ap, _∙_}
 use native.Mathlib.Omega.{arith}
 use borrow.Author.Needs.{needs}
 use Rattle.ring.specs.Bit.{bitAt}
-use Rattle.sync.specs.declared.SyncEnd.the-variants.{At}
-use Rattle.visit.specs.declared.HeaderAt.the-variants.{Sector}
-use Rattle.sync.specs.Sync.{syncEnd}
-use Rattle.visit.specs.Visit.{visit}
+use Rattle.scan_sync.specs.declared.SyncEnd.the-variants.{At}
+use Rattle.scan_visit.specs.declared.HeaderAt.the-variants.{Sector}
+use Rattle.scan_sync.specs.Sync.{syncEnd}
+use Rattle.scan_visit.specs.Visit.{visit}
 use Rattle.scan.specs.Scan.{recordsFrom}
-use Rattle.visit.specs.Answers.{headerAnswer}
+use Rattle.scan_visit.specs.Answers.{headerAnswer}
 use Rattle.scan.specs.Answers.{nextOf}
 use Rattle.scan.proofs.ScanLaws.{found-sync}
 use Rattle.scan.proofs.NextLaws.{over}

@@ -1,2 +1,0 @@
-pub mod ArcLaws
-pub mod Lengths

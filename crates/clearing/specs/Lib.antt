@@ -1,3 +1,0 @@
-pub mod Clearing
-pub mod Counting
-pub mod Contracts

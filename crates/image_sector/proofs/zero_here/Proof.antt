@@ -1,0 +1,88 @@
+use Rattle.image_sector.proofs.KindSteps.{zeroed-as}
+use Rattle.geometry.proofs.D64Laws.{offset-in}
+use Rattle.image_sector.specs.declared.ImageKind.the-variants.{D64, G64, Nib}
+use Rattle.sector.specs.Rules.{unique, consistent}
+use lib.ListN.{length}
+use native.Mathlib.Omega.{arith}
+use borrow.Author.Needs.{needs}
+use Rattle.image_sector.proofs.zero_here.Statement.{statement}
+use Rattle.image_sector.proofs.zero_here.Tie as tie
+
+enum-told : tie.Need-enum-told
+enum-told c = search needs
+
+zero-block-requires : tie.Need-zero-block-requires
+zero-block-requires c κs =
+    let s = c .before .before .before .before in
+    let o = s .pre .0 in
+    omega (
+      arith,
+      offset-in 35 (s .args .track) (s .args .sector) (o .some) (o .highest) (o .below),
+      s .pre .1 .sectors (c .before .enum-told .given .1),
+    )
+
+enum-told-2 : tie.Need-enum-told-2
+enum-told-2 c = search needs
+
+zero-unique-requires : tie.Need-zero-unique-requires
+zero-unique-requires c κs =
+    let s = c .before .before .before .before in
+    s .pre .1 .ring
+
+enum-told-3 : tie.Need-enum-told-3
+enum-told-3 c = search needs
+
+zero-consistent-requires : tie.Need-zero-consistent-requires
+zero-consistent-requires c κs =
+    let s = c .before .before .before .before in
+    s .pre .1 .ring
+
+same-length : tie.Need-same-length
+same-length c = search needs
+
+returns : tie.Need-returns
+returns c =
+    let z = c .before .before in
+    let e = z .before .before in
+    let a = e .before .before .before .args in
+    zeroed-as (a .place) (a .image .now) (a .track) (a .sector) (a .kind) D64 (e .enum-told .given .1) (z .zero-block .last .0)
+    (z .zero-block .ensures)
+
+same-length-2 : tie.Need-same-length-2
+same-length-2 c = search needs
+
+returns-2 : tie.Need-returns-2
+returns-2 c =
+    let z = c .before .before in
+    let e = z .before .before in
+    let a = e .before .before .before .args in
+    zeroed-as (a .place) (a .image .now) (a .track) (a .sector) (a .kind) G64 (e .enum-told2 .given .1) (z .zero-unique .last .0)
+    (z .zero-unique .ensures)
+
+same-length-3 : tie.Need-same-length-3
+same-length-3 c = search needs
+
+returns-3 : tie.Need-returns-3
+returns-3 c =
+    let z = c .before .before in
+    let e = z .before .before in
+    let a = e .before .before .before .args in
+    zeroed-as (a .place) (a .image .now) (a .track) (a .sector) (a .kind) Nib (e .enum-told3 .given .1) (z .zero-consistent .last .0)
+    (z .zero-consistent .ensures)
+
+pub zero-here-spec : {M : Type 1} → statement M
+zero-here-spec =
+    tie.close
+    (tie.spec
+    enum-told
+    zero-block-requires
+    enum-told-2
+    zero-unique-requires
+    enum-told-3
+    zero-consistent-requires
+    same-length
+    returns
+    same-length-2
+    returns-2
+    same-length-3
+    returns-3)

@@ -1,0 +1,206 @@
+-- The statuses of a track: each way that the code goes.
+use mathlib.Core.Path.{_≡_, ap, sym, _∙_}
+use mathlib.Core.Bool.{Bool, true}
+use mathlib.Core.List.{List, [], _++_, append-nil}
+use Prim.Native.Nat.{ℕ, _+_, _-_, _*_, _/_, _≤_, _<_}
+use native.Mathlib.Omega.{arith}
+use native.Mathlib.Nat.{sub-zero}
+use native.Mathlib.Decide.{decLt}
+use lib.Dec.{leb}
+use lib.ListN.{length, getD, take, drop, replicate, length-replicate, List·getD-eq-default}
+use lib.Seq.{drop-length, take-at}
+use Rattle.base.specs.Bytes.{anyNonzero}
+use Rattle.base.specs.Lists.{tab}
+use Rattle.base.specs.Refusals.{noRoom}
+use Rattle.base.proofs.Tests.{eqb-no, ltb-yes, ltb-no, leb-yes, leb-no}
+use Rattle.base.proofs.Lists.{getD-any, length-tab}
+use Rattle.base.proofs.Picks.{pick-ind}
+use Rattle.geometry.specs.Zones.{within, sectorsOf}
+use Rattle.geometry.proofs.ZoneLaws.{sectors-of}
+use Rattle.geometry.specs.D64.{d64Place}
+use Rattle.scan.specs.Scan.{records}
+use Rattle.track_read.specs.Reading.{readSector, readStatuses}
+use Rattle.track_read.specs.Answers.{trackStatuses}
+use Rattle.scan.proofs.ScanLaws.{few-records}
+use Rattle.scan.proofs.Refusing.{room}
+use Rattle.track_read.proofs.Refusing.{read-empty, read-long}
+use Rattle.image.specs.declared.Table.{Table}
+use Rattle.image.specs.G64.{g64Table}
+use Rattle.image.proofs.TableLaws.{g64-inside}
+use Rattle.nib_slots.specs.Slots.{ringOf}
+use Rattle.image_kind.specs.declared.Kind.{Kind}
+use Rattle.image_kind.specs.declared.Kind.the-variants.{D64, G64, Nib, Unknown}
+use Rattle.image_kind.specs.Kinds.{kindOf}
+use Rattle.image_statuses.specs.Statuses.{statusesNumber, statusesAfter, isShown}
+use Rattle.image_statuses.specs.Statuses.{noTrack, errorByte, d64Status, d64Statuses, halfOf, ringStatuses, g64Ring, statusesBy, statusesOf}
+
+-- ---- D64
+module _ (image : List ℕ) (highest track sector : ℕ) where
+  module _ (end place : ℕ) (e : end ≡ d64Place (highest + 1) 0) (p : place ≡ d64Place track sector) where
+    pub byte-there : end + place / 256 < length image → getD image (end + place / 256) 0 ≡ errorByte image highest track sector
+    byte-there h = getD-any image (end + place / 256) 0 1 h ∙ rw (e, p)
+
+    pub byte-past : length image ≤ end + place / 256 → 1 ≡ errorByte image highest track sector
+    byte-past h = sym (ap (λ (n : ℕ). getD image n 1) (rw (e, p)) ∙ List·getD-eq-default image 1 h)
+
+  module _ (byte : ℕ) (b : byte ≡ errorByte image highest track sector) where
+    pub status-bad : 1 < byte → 2 ≡ d64Status image highest track sector
+    unfolding d64Status
+    status-bad h = rw (← b, ltb-yes 1 byte h)
+
+    pub status-good : byte ≤ 1 → 1 ≡ d64Status image highest track sector
+    unfolding d64Status
+    status-good h = rw (← b, ltb-no 1 byte h)
+
+module _ (image : List ℕ) (highest track : ℕ) (before after : List ℕ) (n : length before ≡ sectorsOf track) where
+  pub d64-has : track ≤ highest → after ≡ tab (length before) (d64Status image highest track) → after ≡ d64Statuses image highest track
+  unfolding d64Statuses
+  d64-has h e = rw (leb-yes track highest h, ← n) e
+
+  pub d64-none : highest < track → after ≡ replicate (length before) 0 → after ≡ d64Statuses image highest track
+  unfolding d64Statuses
+  d64-none h e = rw (leb-no track highest h, ← n) e
+
+-- ---- a ring, read over a part that held zeros
+module _ (ring payloads part : List ℕ) (track : ℕ) (p : 5376 ≤ length payloads) (n : length part ≡ sectorsOf track)
+    (e : part ≡ noTrack track) where
+  for-payloads : 256 * sectorsOf track ≤ length payloads
+  for-payloads = let s = sectors-of track in omega arith
+
+  ring-empty : length ring ≡ 0 → trackStatuses ring track 0 payloads part ≡ ringStatuses ring track
+  unfolding ringStatuses
+  ring-empty z =
+      sym (read-empty ring track 0 payloads part for-payloads (omega arith) z .2) ∙ e ∙ rw (leb-no 1 (length ring) (omega arith))
+
+  ring-long : 65535 < length ring → trackStatuses ring track 0 payloads part ≡ ringStatuses ring track
+  unfolding ringStatuses
+  ring-long h =
+      sym (read-long ring track 0 payloads part for-payloads (omega arith) h .2) ∙ e
+      ∙ rw (leb-yes 1 (length ring) (omega arith), leb-no (length ring) 65535 h)
+
+  all-read : drop (sectorsOf track) part ≡ []
+  all-read = ap (λ (m : ℕ). drop m part) (sym n) ∙ drop-length part
+
+  ring-good : 0 < length ring → length ring ≤ 65535 → trackStatuses ring track 0 payloads part ≡ ringStatuses ring track
+  unfolding trackStatuses ringStatuses
+  ring-good some small =
+      rw (
+        room (256 * sectorsOf track) (length payloads) (sectorsOf track) (length part) for-payloads (omega arith),
+        eqb-no (length ring) 0 (λ z. omega arith),
+        ltb-no 65535 (length ring) small,
+        ltb-no 195 (length (records ring track 0)) (few-records ring track 0 small),
+        leb-yes 1 (length ring) some,
+        leb-yes (length ring) 65535 small,
+        all-read,
+      )
+      (append-nil (readStatuses ring track 0))
+
+  pub ring-read : trackStatuses ring track 0 payloads part ≡ ringStatuses ring track
+  ring-read =
+      elim (decLt 0 (length ring)) [
+        | yes some ↦ elim (decLt 65535 (length ring)) [ yes h ↦ ring-long h | no h ↦ ring-good some (omega arith) ]
+        | no h ↦ ring-empty (omega arith)
+      ]
+
+-- ---- the ring of a half-track
+pub ring-of : (image : List ℕ) (half : ℕ) (table : Table) → table ≡ g64Table image
+    → take (getD (table .starts) half 0 + getD (table .lengths) half 0 - getD (table .starts) half 0)
+    (drop (getD (table .starts) half 0) image)
+    ≡ g64Ring image half
+ring-of image half table e =
+    let w : getD (table .starts) half 0 + getD (table .lengths) half 0 - getD (table .starts) half 0 ≡ getD (table .lengths) half 0
+    = omega arith in
+    rw (w, e)
+
+pub ring-inside : (image : List ℕ) (half : ℕ) (table : Table) → table ≡ g64Table image
+    → getD (table .starts) half 0 + getD (table .lengths) half 0 ≤ length image
+ring-inside image half table e = rw e (g64-inside image .each half)
+
+pub no-track : (part after : List ℕ) (track : ℕ) → length part ≡ sectorsOf track → after ≡ replicate (length part) 0
+    → after ≡ noTrack track
+no-track part after track n e = e ∙ ap (λ (m : ℕ). replicate m 0) n
+
+-- ---- an image
+module _ (image : List ℕ) (track : ℕ) where
+  pub by-kind : (k : Kind) → kindOf image ≡ k → statusesBy image track k ≡ statusesBy image track (kindOf image)
+  by-kind k e = ap (statusesBy image track) (sym e)
+
+  pub track-zero : track ≡ 0 → noTrack track ≡ statusesOf image track
+  unfolding statusesOf
+  track-zero z = rw z
+
+  pub track-past : 42 < track → noTrack track ≡ statusesOf image track
+  unfolding statusesOf
+  track-past h = rw (leb-yes 1 track (omega arith), leb-no track 42 h)
+
+  pub track-in : 0 < track → track ≤ 42 → statusesBy image track (kindOf image) ≡ statusesOf image track
+  unfolding statusesOf
+  track-in h k = rw (leb-yes 1 track h, leb-yes track 42 k)
+
+  module _ (statuses : List ℕ) where
+    pub no-room-number : length statuses < sectorsOf track → noRoom ≡ statusesNumber track statuses
+    unfolding statusesNumber
+    no-room-number h = rw (leb-no (sectorsOf track) (length statuses) h)
+
+    pub no-room-after : length statuses < sectorsOf track → statuses ≡ statusesAfter image track statuses
+    unfolding statusesAfter
+    no-room-after h = rw (leb-no (sectorsOf track) (length statuses) h)
+
+    pub room-number : sectorsOf track ≤ length statuses → 0 ≡ statusesNumber track statuses
+    unfolding statusesNumber
+    room-number h = rw (leb-yes (sectorsOf track) (length statuses) h)
+
+    pub room-after : (count : ℕ) (part : List ℕ) → count ≡ sectorsOf track → sectorsOf track ≤ length statuses
+        → part ≡ statusesOf image track → part ++ drop (count - 0) statuses ≡ statusesAfter image track statuses
+    unfolding statusesAfter
+    room-after count part c h e = rw (leb-yes (sectorsOf track) (length statuses) h, e, sub-zero, c)
+
+-- ---- a track has as many statuses as sectors
+none-count : (track : ℕ) → length (noTrack track) ≡ sectorsOf track
+none-count track = length-replicate (sectorsOf track) 0
+
+abbrev pub Counts : ℕ → List ℕ → Type 0
+Counts track l = length l ≡ sectorsOf track
+
+pub ring-count : (ring : List ℕ) (track : ℕ) → Counts track (ringStatuses ring track)
+unfolding ringStatuses
+ring-count ring track =
+    pick-ind (Counts track) (within 1 65535 (length ring)) (readStatuses ring track 0) (noTrack track)
+    (λ e. length-tab (sectorsOf track) (λ j. readSector ring track 0 j .status)) (λ e. none-count track)
+
+d64-count : (image : List ℕ) (highest track : ℕ) → Counts track (d64Statuses image highest track)
+unfolding d64Statuses
+d64-count image highest track =
+    pick-ind (Counts track) (leb track highest) (tab (sectorsOf track) (d64Status image highest track)) (noTrack track)
+    (λ e. length-tab (sectorsOf track) (d64Status image highest track)) (λ e. none-count track)
+
+kind-count : (image : List ℕ) (track : ℕ) (k : Kind) → Counts track (statusesBy image track k)
+kind-count image track (D64 n) = d64-count image n track
+kind-count image track G64 = ring-count (g64Ring image (halfOf track)) track
+kind-count image track Nib = ring-count (ringOf image (halfOf track)) track
+kind-count image track Unknown = none-count track
+
+pub status-count : (image : List ℕ) (track : ℕ) → length (statusesOf image track) ≡ sectorsOf track
+unfolding statusesOf
+status-count image track =
+    pick-ind (Counts track) (within 1 42 track) (statusesBy image track (kindOf image)) (noTrack track)
+    (λ e. kind-count image track (kindOf image)) (λ e. none-count track)
+
+-- ---- the statuses that the code hands on are the track's
+pub statuses-read : (image before after : List ℕ) (track count : ℕ) → 21 ≤ length before → after ≡ statusesAfter image track before
+    → count ≡ sectorsOf track → take count after ≡ statusesOf image track
+unfolding statusesAfter
+statuses-read image before after track count h e c =
+    let s = sectors-of track in
+    rw (e, leb-yes (sectorsOf track) (length before) (omega arith), c)
+    (take-at (statusesOf image track) (drop (sectorsOf track) before) (sectorsOf track) (status-count image track))
+
+-- ---- tracks to speak of
+module _ (track : ℕ) (statuses : List ℕ) where
+  pub shown-low : track ≤ 35 → true ≡ isShown track statuses
+  unfolding isShown
+  shown-low h = rw (leb-yes track 35 h)
+
+  pub shown-high : (any : Bool) → any ≡ anyNonzero statuses → 35 < track → any ≡ isShown track statuses
+  unfolding isShown
+  shown-high any e h = rw (leb-no track 35 h) e

@@ -1,0 +1,147 @@
+// Which sectors of a track read, in an image of any kind.
+ghost use mathlib.Core.Path.{_≡_};
+ghost use Prim.Native.Nat.{_<_, _≤_};
+ghost use lib.ListN.{length, replicate};
+ghost use Rattle.base.specs.Lists.{tab};
+ghost use Rattle.geometry.specs.Zones.{sectorsOf};
+ghost use Rattle.image_kind.specs.Kinds.{kindOf};
+ghost use Rattle.image_statuses.specs.Statuses.{errorByte, d64Status, d64Statuses, halfOf, ringStatuses, g64Ring};
+ghost use Rattle.image_statuses.specs.Statuses.{statusesBy, statusesOf, statusesNumber, statusesAfter, isShown};
+use image_kind::Kind;
+
+// The last track that an image can have.
+pub const LAST_TRACK: u8 = 42;
+
+fn fill(part: &mut [u8], v: u8)
+    ensures { λ r. ⌜ now (part .exit) ≡ replicate (length (now (part .entry))) v ⌝ }
+{
+    let count = part.len();
+    track_read::fill(part, count, v);
+}
+
+// The error byte of a sector, 1 where the image has none.
+fn error_byte(image: &[u8], highest: u8, track: u8, sector: u8) -> u8
+    requires { ⌜ highest ≤ 42 ⌝ }
+    ensures { λ r. ⌜ r ≡ errorByte (now (image .entry)) highest track sector ⌝ }
+{
+    let end = geometry::d64_place(highest + 1, 0);
+    let at = end + geometry::d64_place(track, sector) / 256;
+    if at < image.len() {
+        return image[at];
+    }
+    1
+}
+
+fn d64_status(image: &[u8], highest: u8, track: u8, sector: u8) -> u8
+    requires { ⌜ highest ≤ 42 ⌝ }
+    ensures { λ r. ⌜ r ≡ d64Status (now (image .entry)) highest track sector ⌝ }
+{
+    if 1 < error_byte(image, highest, track, sector) {
+        2
+    } else {
+        1
+    }
+}
+
+// The statuses of a track that the image has.
+fn put_d64_statuses(image: &[u8], highest: u8, track: u8, part: &mut [u8])
+    requires { ⌜ (highest ≤ 42) × (length (now part) ≤ 21) ⌝ }
+    ensures { λ r. ⌜ now (part .exit) ≡ tab (length (now (part .entry))) (d64Status (now (image .entry)) highest track) ⌝ }
+{
+    let mut sector: u8 = 0;
+    while (sector as usize) < part.len() {
+        part[sector as usize] = d64_status(image, highest, track, sector);
+        sector += 1;
+    }
+}
+
+fn d64_statuses(image: &[u8], highest: u8, track: u8, part: &mut [u8])
+    requires { ⌜ (highest ≤ 42) × (length (now part) ≡ sectorsOf track) ⌝ }
+    ensures { λ r. ⌜ now (part .exit) ≡ d64Statuses (now (image .entry)) highest track ⌝ }
+{
+    if track <= highest {
+        put_d64_statuses(image, highest, track, part);
+        return;
+    }
+    fill(part, 0);
+}
+
+// The statuses of a ring's sectors. A ring that cannot be read is refused, which leaves the zeros.
+pub fn ring_statuses(ring: &[u8], track: u8, part: &mut [u8])
+    requires { ⌜ length (now part) ≡ sectorsOf track ⌝ }
+    ensures { λ r. ⌜ now (part .exit) ≡ ringStatuses (now (ring .entry)) track ⌝ }
+{
+    let mut payloads = [0u8; 5376];
+    fill(part, 0);
+    track_read::decode_track_from(ring, track, 0, &mut payloads, part);
+}
+
+fn half_of(track: u8) -> usize
+    requires { ⌜ (0 < track) × (track ≤ 42) ⌝ }
+    ensures { λ r. ⌜ (r ≡ halfOf track) × (r < 84) ⌝ }
+{
+    2 * (track as usize - 1)
+}
+
+// The ring of a half-track of a G64 image, empty where there is none.
+fn g64_ring(image: &[u8], half: usize) -> &[u8]
+    requires { ⌜ half < 84 ⌝ }
+    ensures { λ r. ⌜ now r ≡ g64Ring (now (image .entry)) half ⌝ }
+{
+    let table = image::g64_table(image);
+    let start = table.starts[half];
+    let end = start + table.lengths[half];
+    &image[start..end]
+}
+
+fn statuses_by_kind(image: &[u8], track: u8, part: &mut [u8])
+    requires { ⌜ (0 < track) × (track ≤ 42) × (length (now part) ≡ sectorsOf track) ⌝ }
+    ensures { λ r. ⌜ now (part .exit) ≡ statusesBy (now (image .entry)) track (kindOf (now (image .entry))) ⌝ }
+{
+    let kind = image_kind::image_kind(image);
+    match kind {
+        Kind::D64(highest) => d64_statuses(image, highest, track, part),
+        Kind::G64 => ring_statuses(g64_ring(image, half_of(track)), track, part),
+        Kind::Nib => ring_statuses(nib_slots::nib_ring(image, half_of(track)), track, part),
+        Kind::Unknown => fill(part, 0),
+    }
+}
+
+fn put_statuses(image: &[u8], track: u8, part: &mut [u8])
+    requires { ⌜ length (now part) ≡ sectorsOf track ⌝ }
+    ensures { λ r. ⌜ now (part .exit) ≡ statusesOf (now (image .entry)) track ⌝ }
+{
+    if track == 0 {
+        fill(part, 0);
+        return;
+    }
+    if LAST_TRACK < track {
+        fill(part, 0);
+        return;
+    }
+    statuses_by_kind(image, track, part);
+}
+
+// The statuses of a track's sectors: 1 reads, 2 does not, 0 where the image has no such track. It answers 0, or the refusal's number
+// where they do not fit.
+pub fn track_statuses(image: &[u8], track: u8, statuses: &mut [u8]) -> u8
+    ensures { λ r. ⌜ r ≡ statusesNumber track (now (statuses .entry)) ⌝ }
+    ensures { λ r. ⌜ now (statuses .exit) ≡ statusesAfter (now (image .entry)) track (now (statuses .entry)) ⌝ }
+{
+    let count = geometry::sectors_per_track(track) as usize;
+    if statuses.len() < count {
+        return base::NO_ROOM;
+    }
+    put_statuses(image, track, &mut statuses[0..count]);
+    0
+}
+
+// Is a track with these statuses one to speak of? A disk has 35; one above only where the image has it.
+pub fn is_shown(track: u8, statuses: &[u8]) -> bool
+    ensures { λ r. ⌜ r ≡ isShown track (now (statuses .entry)) ⌝ }
+{
+    if track <= 35 {
+        return true;
+    }
+    base::any_nonzero(statuses)
+}

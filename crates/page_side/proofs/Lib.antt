@@ -1,0 +1,5 @@
+pub mod FrameLaws
+pub mod PictureLengths
+pub mod ArcLaws
+pub mod ArcsLengths
+pub mod TrackArcsLengths

@@ -1,0 +1,14 @@
+-- How long the frame is: it fits on the pages that the program lends.
+use Prim.Native.Nat.{_≤_}
+use native.Mathlib.Omega.{arith}
+use lib.ListN.{length}
+use Rattle.pages.specs.Page.{allOf}
+use Rattle.page_side.specs.Frame.{svgHead, svgEnd}
+
+pub head-long : length (allOf svgHead) ≤ 512
+unfolding svgHead allOf
+head-long = omega arith
+
+pub end-long : length (allOf svgEnd) ≤ 512
+unfolding svgEnd allOf
+end-long = omega arith

@@ -1,0 +1,8 @@
+pub mod SpanLaws
+pub mod SlotSpanLengths
+pub mod TurnLaws
+pub mod Behind
+pub mod SectorLaws
+pub mod SlotSectorsLengths
+pub mod SlotLaws
+pub mod SlotLinesLengths

@@ -1,0 +1,53 @@
+-- The sectors of a slot as it is put, text by text: p is the page before, and each equation is what one call adds.
+use mathlib.Core.Path.{_≡_}
+use mathlib.Core.List.{List, [], _∷_, _++_}
+use Prim.Native.Nat.{ℕ, _-_}
+use lib.ListN.{length, getD, take}
+use Rattle.base.proofs.Tests.{eqb-yes, eqb-no}
+use Rattle.lines.specs.Line.{numberText}
+use Rattle.pages.specs.Page.{ascii, together, Page, writes}
+use Rattle.pages.proofs.PageLaws.{nothing, then}
+use Rattle.image_statuses.specs.Statuses.{ringStatuses}
+use native.Mathlib.Nat.{sub-zero}
+use Rattle.page_track.specs.Tally.{tally}
+use Rattle.page_slot.specs.Turn.{turnStatuses}
+use Rattle.page_slot.specs.Sectors.{lostAt, lostText, foundText, sectorsText}
+
+-- ---- sectors that the ring has not
+module _ (p : Page) (ring turn window : List ℕ) (j : ℕ) where
+  pub lost-ring : getD ring j 0 ≡ 1 → p ≡ writes p (lostAt ring turn window j)
+  lost-ring e = rw (eqb-yes (getD ring j 0) 1 e) (nothing p)
+
+  module _ (n : getD ring j 0 ≡ 1 → ⊥) where
+    pub lost-neither : (getD window j 0 ≡ 1 → ⊥) → p ≡ writes p (lostAt ring turn window j)
+    lost-neither m = rw (eqb-no (getD ring j 0) 1 n, eqb-no (getD window j 0) 1 m) (nothing p)
+
+    module _ (q r : Page) (w : getD window j 0 ≡ 1) (e : q ≡ writes p (ascii "; sector" ∷ numberText j ∷ [])) where
+      pub lost-across : getD turn j 0 ≡ 1 → r ≡ writes q (ascii " lost across the join" ∷ []) → r ≡ writes p (lostAt ring turn window j)
+      lost-across t f =
+          rw (eqb-no (getD ring j 0) 1 n, eqb-yes (getD window j 0) 1 w, eqb-yes (getD turn j 0) 1 t)
+          (then p q r (ascii "; sector" ∷ numberText j ∷ []) (ascii " lost across the join" ∷ []) e f)
+
+      pub lost-behind : (getD turn j 0 ≡ 1 → ⊥) → r ≡ writes q (ascii " only behind the span" ∷ [])
+          → r ≡ writes p (lostAt ring turn window j)
+      lost-behind t f =
+          rw (eqb-no (getD ring j 0) 1 n, eqb-yes (getD window j 0) 1 w, eqb-no (getD turn j 0) 1 t)
+          (then p q r (ascii "; sector" ∷ numberText j ∷ []) (ascii " only behind the span" ∷ []) e f)
+
+pub all-lost : (p q : Page) (ring turn window : List ℕ) (j : ℕ) → j ≡ length ring
+    → q ≡ writes p (together j (lostAt ring turn window)) → q ≡ writes p (lostText ring turn window)
+unfolding lostText
+all-lost p q ring turn window j n e = rw (← n) e
+
+pub found-put : (p q r s : Page) (ring turn window : List ℕ) → q ≡ writes p (tally (ascii " ring") ring)
+    → r ≡ writes q (tally (ascii " window") window) → s ≡ writes r (lostText ring turn window) → s ≡ writes p (foundText ring turn window)
+found-put p q r s ring turn window e f g =
+    then p q s (tally (ascii " ring") ring) (tally (ascii " window") window ++ lostText ring turn window) e
+    (then q r s (tally (ascii " window") window) (lostText ring turn window) f g)
+
+-- the same, where the statuses are known by another name
+pub sectors-put : (p q : Page) (rs ts ws window : List ℕ) (span track : ℕ) → rs ≡ ringStatuses (take (span - 0) window) track
+    → ts ≡ turnStatuses window span track → ws ≡ ringStatuses window track → q ≡ writes p (foundText rs ts ws)
+    → q ≡ writes p (sectorsText window span track)
+unfolding sectorsText
+sectors-put p q rs ts ws window span track e f g h = rw (← (rw sub-zero at e), ← f, ← g) h

@@ -1,0 +1,49 @@
+-- How long the text of a slot's sectors is.
+use mathlib.Core.List.{List, [], _∷_, _++_}
+use Prim.Native.Nat.{ℕ, _≤_, _<_}
+use native.Mathlib.Omega.{arith}
+use mathlib.Core.Bool.{_&&_, not}
+use lib.ListN.{length, take, length-append}
+use Rattle.geometry.proofs.ZoneLaws.{sectors-of}
+use Rattle.lines.specs.Line.{numberText}
+use Rattle.pages.specs.Page.{ascii, together, allOf}
+use Rattle.pages.proofs.PageLaws.{append-long, together-long, Within}
+use Rattle.image_statuses.specs.Statuses.{ringStatuses}
+use Rattle.image_statuses.proofs.StatusLaws.{ring-count}
+use Rattle.base.proofs.Picks.{pick-ind}
+use Rattle.page_text.proofs.DecimalLaws.{decimal-width}
+use Rattle.page_track.specs.Tally.{tally}
+use Rattle.page_track.proofs.TallyLengths.{tally-long}
+use Rattle.page_slot.specs.Turn.{turnStatuses}
+use Rattle.page_slot.specs.Sectors.{has, whereabouts, lostAt, lostText, foundText, sectorsText}
+
+where-long : (turn : List ℕ) (j : ℕ) → length (whereabouts turn j) ≤ 21
+where-long turn j =
+    pick-ind (λ (l : List ℕ). length l ≤ 21) (has turn j) (ascii " lost across the join") (ascii " only behind the span")
+    (λ e. omega arith) (λ e. omega arith)
+
+lost-at-long : (ring turn window : List ℕ) (j : ℕ) → j < 21 → Within 32 (lostAt ring turn window j)
+unfolding allOf
+lost-at-long ring turn window j h =
+    pick-ind (Within 32) (not (has ring j) && has window j) (ascii "; sector" ∷ numberText j ∷ whereabouts turn j ∷ []) []
+    (λ e. simp length-append (omega (arith, decimal-width 1 j (omega arith), where-long turn j))) (λ e. omega arith)
+
+found-long : (ring turn window : List ℕ) → length ring ≤ 21 → length window ≤ 21 → Within 900 (foundText ring turn window)
+unfolding lostText
+found-long ring turn window r w =
+    let l = together-long 32 (lostAt ring turn window) (length ring) (λ j h. lost-at-long ring turn window j (omega arith)) in
+    omega (
+      arith,
+      append-long (tally (ascii " ring") ring) (tally (ascii " window") window ++ together (length ring) (lostAt ring turn window)),
+      append-long (tally (ascii " window") window) (together (length ring) (lostAt ring turn window)),
+      tally-long (ascii " ring") ring r,
+      tally-long (ascii " window") window w,
+      l,
+    )
+
+pub sectors-long : (window : List ℕ) (span track : ℕ) → Within 900 (sectorsText window span track)
+unfolding sectorsText
+sectors-long window span track =
+    let s = sectors-of track in
+    found-long (ringStatuses (take span window) track) (turnStatuses window span track) (ringStatuses window track)
+    (omega (arith, ring-count (take span window) track)) (omega (arith, ring-count window track))

@@ -1,0 +1,4 @@
+pub mod Span
+pub mod Turn
+pub mod Sectors
+pub mod Slots

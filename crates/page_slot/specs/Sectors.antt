@@ -1,0 +1,37 @@
+-- The sectors that are found in the ring recovered from a window, and in the whole window; and where those are that the ring has not.
+use Prim.Native.Nat.{ℕ}
+use mathlib.Core.Bool.{Bool, _&&_, not}
+use mathlib.Core.List.{List, [], _∷_, _++_}
+use lib.Dec.{eqb}
+use lib.ListN.{length, getD, take}
+use Rattle.base.specs.Choice.{pick}
+use Rattle.lines.specs.Line.{numberText}
+use Rattle.pages.specs.Page.{ascii, Text, together}
+use Rattle.image_statuses.specs.Statuses.{ringStatuses}
+use Rattle.page_track.specs.Tally.{tally}
+use Rattle.page_slot.specs.Turn.{turnStatuses}
+
+-- status 1: the sector is found
+abbrev pub has : List ℕ → ℕ → Bool
+has statuses j = eqb (getD statuses j 0) 1
+
+-- a sector that the window has and the ring has not: where the ring's turn, read on in the window, has it, it was lost across the join,
+-- at which the ring goes back to its beginning; where the turn has not, what the window has of it stands behind the span
+abbrev pub whereabouts : List ℕ → ℕ → List ℕ
+whereabouts turn j = pick (has turn j) (ascii " lost across the join") (ascii " only behind the span")
+
+abbrev pub lostAt : List ℕ → List ℕ → List ℕ → ℕ → Text
+lostAt ring turn window j =
+    pick (not (has ring j) && has window j) (ascii "; sector" ∷ numberText j ∷ whereabouts turn j ∷ []) []
+
+unfoldable pub lostText : List ℕ → List ℕ → List ℕ → Text
+lostText ring turn window = together (length ring) (lostAt ring turn window)
+
+-- the sectors of a track, by their statuses in the ring, in its turn, and in the window
+abbrev pub foundText : List ℕ → List ℕ → List ℕ → Text
+foundText ring turn window = tally (ascii " ring") ring ++ (tally (ascii " window") window ++ lostText ring turn window)
+
+-- the ring is the first `span` bytes of the window
+unfoldable pub sectorsText : List ℕ → ℕ → ℕ → Text
+sectorsText window span track =
+    foundText (ringStatuses (take span window) track) (turnStatuses window span track) (ringStatuses window track)

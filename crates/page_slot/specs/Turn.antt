@@ -1,0 +1,18 @@
+-- The turn of a window: the scan of the ring that its first bytes make, but read on in the window where the ring goes back to its
+-- beginning. Up to the join both see the same bits; a sector that the turn has and the ring has not was lost across the join.
+use Prim.Native.Nat.{ℕ, _*_}
+use mathlib.Core.List.{List}
+use Rattle.base.specs.Lists.{tab}
+use Rattle.geometry.specs.Zones.{sectorsOf}
+use Rattle.ring.specs.Bit.{bitAt}
+use Rattle.scan.specs.declared.SectorRecord.{SectorRecord}
+use Rattle.scan.specs.Scan.{recordsFrom}
+use Rattle.track_read.specs.Reading.{firstOf}
+
+-- the records of one turn, which ends with the first `span` bytes of the window; as in any scan, a sync may end up to 15 bits past it
+abbrev pub turnRecords : List ℕ → ℕ → ℕ → List SectorRecord
+turnRecords window span track = recordsFrom (bitAt window) track (8 * span) 0
+
+-- the statuses of the track's sectors among them: 1 for one that reads, 2 for one that does not
+unfoldable pub turnStatuses : List ℕ → ℕ → ℕ → List ℕ
+turnStatuses window span track = tab (sectorsOf track) (λ j. firstOf j (turnRecords window span track) .status)

@@ -1,0 +1,4 @@
+pub mod TallyLaws
+pub mod TallyLengths
+pub mod TrackLaws
+pub mod TrackLinesLengths

@@ -1,0 +1,75 @@
+use mathlib.Core.Path.{sym, _∙_}
+use Rattle.page_track.proofs.TrackLaws.{line-there, line-absent}
+use borrow.Author.Needs.{needs}
+use Rattle.page_track.proofs.put_statuses.Statement.{statement}
+use Rattle.page_track.proofs.put_statuses.Tie as tie
+
+slice-aggregate-counted : tie.Need-slice-aggregate-counted
+slice-aggregate-counted c = search needs
+
+counted-requires : tie.Need-counted-requires
+counted-requires c κs = search needs
+
+any-nonzero-requires : tie.Need-any-nonzero-requires
+any-nonzero-requires c κs = search needs
+
+slice-aggregate-put-tally : tie.Need-slice-aggregate-put-tally
+slice-aggregate-put-tally c = search needs
+
+put-tally-requires : tie.Need-put-tally-requires
+put-tally-requires c κs = search needs
+
+slice-aggregate-words : tie.Need-slice-aggregate-words
+slice-aggregate-words c = search needs
+
+words-requires : tie.Need-words-requires
+words-requires c κs = search needs
+
+same-length : tie.Need-same-length
+same-length c = search needs
+
+returns : tie.Need-returns
+returns c =
+    let a = c .before .before .before .before .before .before .before .before .before .before .before .before .before .before .before
+    .before .before .before .before .args in
+    line-there _ _ _ (a .track) (a .statuses .now)
+    (c .before .before .before .before .before .before .before .before .before .before .before .before .before .before .counted
+    .ensures) _ (sym (c .before .before .before .before .before .before .before .before .before .before .before .any-nonzero
+    .ensures) ∙ c .before .before .before .before .before .before .before .before .before .before .if1 .taken)
+    (c .before .before .before .before .before .before .before .put-tally .ensures) (c .before .before .words .ensures)
+
+slice-aggregate-words-2 : tie.Need-slice-aggregate-words-2
+slice-aggregate-words-2 c = search needs
+
+words-requires-2 : tie.Need-words-requires-2
+words-requires-2 c κs = search needs
+
+same-length-2 : tie.Need-same-length-2
+same-length-2 c = search needs
+
+returns-2 : tie.Need-returns-2
+returns-2 c =
+    let a = c .before .before .before .before .before .before .before .before .before .before .before .before .before .before .args in
+    line-absent _ _ _ (a .track) (a .statuses .now)
+    (c .before .before .before .before .before .before .before .before .before .counted .ensures)
+    (sym (c .before .before .before .before .before .before .any-nonzero .ensures) ∙ c .before .before .before .before .before
+    .if1 .left)
+    (c .before .before .words2 .ensures)
+
+pub put-statuses-spec : {M : Type 1} → statement M
+put-statuses-spec =
+    tie.close
+    (tie.spec
+    slice-aggregate-counted
+    counted-requires
+    any-nonzero-requires
+    slice-aggregate-put-tally
+    put-tally-requires
+    slice-aggregate-words
+    words-requires
+    same-length
+    returns
+    slice-aggregate-words-2
+    words-requires-2
+    same-length-2
+    returns-2)

@@ -1,0 +1,111 @@
+-- Clearing an image of any kind as the code does it: a law for each way out.
+use mathlib.Core.Path.{_≡_, refl, ap, _∙_}
+use mathlib.Core.Bool.{Bool, true, false}
+use mathlib.Core.List.{List}
+use Prim.Native.Nat.{ℕ, zero, suc, _+_, _*_, _-_, _≤_, _<_}
+use native.Mathlib.Omega.{arith}
+use lib.ListN.{length, take, drop}
+use Rattle.base.specs.Choice.{pick}
+use Rattle.base.specs.Refusals.{noDirectory, wrongLink}
+use Rattle.base.specs.Bytes.{anyNonzero}
+use Rattle.geometry.specs.Zones.{sectorsOf}
+use Rattle.geometry.specs.D64.{d64Place}
+use Rattle.geometry.proofs.ZoneLaws.{sectors-of}
+use Rattle.sector.specs.declared.Sector.{Sector}
+use Rattle.sector.specs.Rules.{unique, consistent}
+use Rattle.image.specs.declared.Place.{Place}
+use Rattle.image.specs.declared.Table.{Table}
+use Rattle.image.specs.Rings.{ringPlace}
+use Rattle.image.specs.D64.{d64Sector}
+use Rattle.image.proofs.D64Reads.{sector-in, sector-out}
+use Rattle.image_sector.specs.declared.ImageKind.{ImageKind}
+use Rattle.image_sector.specs.declared.ImageKind.the-variants.{D64, G64, Nib}
+use Rattle.image_sector.specs.Kinds.{Kind, d64Kind, ringsKind, kindOf, kindAt}
+use Rattle.reclaim_directory.specs.declared.Chain.{Chain}
+use Rattle.reclaim.specs.declared.Counts.{Counts}
+use Rattle.reclaim.specs.declared.Outcome.the-variants.{Cleared}
+use Rattle.reclaim_directory.specs.Disk.{bamFree, isFree, disk1541}
+use Rattle.reclaim_directory.specs.Chains.{chainOf}
+use Rattle.reclaim.specs.Clearing.{Work, hasData, cleared, clearSector, sectorsDone, tracksDone}
+use Rattle.reclaim.specs.Clearing.{untouched, refuse, finish, withChain, withBam, clearing}
+use Rattle.reclaim.specs.Counting.{freeSectors, freeTracks}
+use Rattle.reclaim.specs.Contracts.{work, answer}
+
+-- has a sector data
+pub unreadable : (found : Sector) → found .ok ≡ false → false ≡ hasData found
+unreadable found o = rw o
+
+pub by-bytes : (found : Sector) → found .ok ≡ true → anyNonzero (found .bytes) ≡ hasData found
+by-bytes found o = rw o
+
+-- has a sector of a D64 image data: p is its place
+module _ (l : List ℕ) (t s p : ℕ) (e : p ≡ d64Place t s) where
+  pub block-there : (r : Bool) → p + 256 ≤ length l → r ≡ anyNonzero (take (p + 256 - p) (drop p l)) → r ≡ hasData (d64Sector l t s)
+  block-there r h q = q ∙ ap hasData (sector-in l t s p e (take (p + 256 - p) (drop p l)) h refl)
+
+  pub block-missing : length l < p + 256 → false ≡ hasData (d64Sector l t s)
+  block-missing h = ap hasData (sector-out l t s p e h)
+
+-- has a sector data, where the kind of the image is known to be D64
+pub data-as : (place : Place) (l : List ℕ) (t s : ℕ) (kind : ImageKind) → kind ≡ D64 → (r : Bool) → r ≡ hasData (d64Sector l t s)
+    → r ≡ hasData (kindAt kind place .read l t s)
+data-as place l t s kind e r q = rw e q
+
+-- a sector at its turn
+module _ (kind : Kind) (toClear : ℕ → ℕ → Bool) (t s : ℕ) (l : List ℕ) (c : Counts) where
+  pub turn-kept : toClear t s ≡ false → work l c ≡ clearSector kind toClear t s (work l c)
+  unfolding clearSector
+  turn-kept f = rw f
+
+  module _ (f : toClear t s ≡ true) (found : Sector) (q : found ≡ kind .read l t s) where
+    pub turn-same : hasData found ≡ false
+        → record { image = l; free = c .free + 1; changed = c .changed } ≡ clearSector kind toClear t s (work l c)
+    unfolding clearSector cleared
+    turn-same h = rw (f, rw q at h)
+
+    pub turn-changed : hasData found ≡ true → (m : List ℕ) → m ≡ kind .zeroed t s l
+        → record { image = m; free = c .free + 1; changed = c .changed + 1 } ≡ clearSector kind toClear t s (work l c)
+    unfolding clearSector cleared
+    turn-changed h m z = rw (f, rw q at h, z)
+
+-- the sectors of a track, by the kind on that track and by the table
+module _ (table : Table) (t : ℕ) where
+  pub sectors-there : (kind : ImageKind) (free : ℕ → ℕ → Bool) (n : ℕ) (w : Work)
+      → sectorsDone (kindAt kind (ringPlace table t)) free t n w ≡ sectorsDone (kindOf kind table) free t n w
+  unfolding sectorsDone clearSector cleared
+  sectors-there kind free zero w = refl
+  sectors-there D64 free (suc n) w = ap (clearSector d64Kind free t n) (sectors-there D64 free n w)
+  sectors-there G64 free (suc n) w = ap (clearSector (ringsKind unique table) free t n) (sectors-there G64 free n w)
+  sectors-there Nib free (suc n) w = ap (clearSector (ringsKind consistent table) free t n) (sectors-there Nib free n w)
+
+-- no more are counted than there are sectors
+pub free-le : (free : ℕ → ℕ → Bool) (t k : ℕ) → freeSectors free t k ≤ k
+unfolding freeSectors
+free-le free t zero = omega arith
+free-le free t (suc k) = let h = free-le free t k in let p = one (free t k) in omega arith
+  where
+    one : (b : Bool) → pick b 1 0 ≤ 1
+    one true = omega arith
+    one false = omega arith
+
+pub tracks-le : (free : ℕ → ℕ → Bool) (k : ℕ) → freeTracks sectorsOf free k ≤ 21 * k
+unfolding freeTracks
+tracks-le free zero = omega arith
+tracks-le free (suc k) = omega (arith, tracks-le free k, free-le free (suc k) (sectorsOf (suc k)), sectors-of (suc k) .1)
+
+-- ---- the whole: one law for each return of `clear_image`
+module _ (kind : Kind) (n : ℕ) (l : List ℕ) (b : Sector) (q : b ≡ kind .read l 18 0) where
+  pub no-bam : b .ok ≡ false → refuse l noDirectory ≡ clearing kind (disk1541 n) bamFree l
+  unfolding withBam
+  no-bam o = rw (← q, o)
+
+  module _ (o : b .ok ≡ true) (k : Chain) (r : k ≡ chainOf (disk1541 n) (kind .read l) (b .bytes)) where
+    pub no-chain : k .ok ≡ false → refuse l wrongLink ≡ clearing kind (disk1541 n) bamFree l
+    unfolding withBam withChain
+    no-chain p = rw (← q, o, ← r, p)
+
+    pub all-cleared : k .ok ≡ true → (m : List ℕ) (c : Counts)
+        → work m c ≡ tracksDone kind sectorsOf (isFree (bamFree (b .bytes)) (k .marks)) 35 (untouched l)
+        → answer m (Cleared (c .free) (c .changed)) ≡ clearing kind (disk1541 n) bamFree l
+    unfolding withBam withChain
+    all-cleared p m c w = rw (← q, o, ← r, p) (ap finish w)

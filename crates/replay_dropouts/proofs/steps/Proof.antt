@@ -1,0 +1,24 @@
+use mathlib.Core.Path.{refl}
+use native.Mathlib.Nat.{mod-lt}
+use native.Mathlib.Omega.{arith}
+use borrow.Author.Needs.{needs}
+use Rattle.replay_dropouts.proofs.steps.Statement.{statement}
+use Rattle.replay_dropouts.proofs.steps.Tie as tie
+
+rem-result : tie.Need-rem-result
+rem-result c = search needs
+
+sub-result : tie.Need-sub-result
+sub-result c = omega (arith, mod-lt (c .args .a) (c .pre .0))
+
+add-result : tie.Need-add-result
+add-result c = search needs
+
+rem-result-2 : tie.Need-rem-result-2
+rem-result-2 c = search needs
+
+returns : tie.Need-returns
+returns c = search needs
+
+pub steps-spec : {M : Type 1} → statement M
+steps-spec = tie.close (tie.spec rem-result sub-result add-result rem-result-2 returns)

@@ -1,0 +1,151 @@
+// Groups of the nibble code, encoded and decoded, with a line for each set of them. What it must write was written by
+// the original (compare/README.md).
+use libc::STDOUT_FILENO;
+use replay_shared::draw;
+use replay_shared::sum;
+
+// A set of groups under way: the generator's state, how many groups there were, how many of them came back as they
+// were (or were refused), and the checksum of what was made.
+struct Part {
+    state: u32,
+    count: u64,
+    kept: u64,
+    total: u32,
+}
+
+fn new_part(seed: u32) -> Part {
+    Part {
+        state: seed,
+        count: 0,
+        kept: 0,
+        total: sum::START,
+    }
+}
+
+fn more(n: u64, counts: bool) -> u64 {
+    if counts {
+        std::num::wrapping_add_u64(n, 1)
+    } else {
+        n
+    }
+}
+
+fn same_group(answer: gcr::Decoded4, group: [u8; 4]) -> bool {
+    let bytes = answer.bytes;
+    answer.ok && base::same_bytes(&bytes, &group)
+}
+
+fn there_and_back(p: Part, group: [u8; 4]) -> Part {
+    let code = gcr::encode_group(&group);
+    let came_back = same_group(gcr::decode_group(&code), group);
+    Part {
+        state: p.state,
+        count: more(p.count, true),
+        kept: more(p.kept, came_back),
+        total: sum::mix_all(p.total, &code),
+    }
+}
+
+fn decoded(p: Part, code: [u8; 5]) -> Part {
+    let answer = gcr::decode_group(&code);
+    let bytes = answer.bytes;
+    let ok = answer.ok;
+    Part {
+        state: p.state,
+        count: more(p.count, true),
+        kept: more(p.kept, !ok),
+        total: if ok {
+            sum::mix_all(p.total, &bytes)
+        } else {
+            p.total
+        },
+    }
+}
+
+// A line with its end, written.
+fn write(line: &mut [u8], at: usize) {
+    let n = lines::words(line, at, b"\n");
+    io::write_all(STDOUT_FILENO, lines::so_far(line, n));
+}
+
+fn show(name: &[u8], p: Part, what: &[u8]) {
+    let mut line = [0u8; 128];
+    let mut at = lines::words(&mut line, 0, name);
+    at = lines::number(&mut line, at, p.count);
+    at = lines::words(&mut line, at, what);
+    at = lines::number(&mut line, at, p.kept);
+    at = lines::sum(&mut line, at, p.total);
+    write(&mut line, at);
+}
+
+// Pair k of first bytes, with two zeros behind it.
+fn prefix(p: Part, k: u32) -> Part {
+    there_and_back(p, [(k / 256 % 256) as u8, (k % 256) as u8, 0, 0])
+}
+
+fn random_group(p: Part) -> Part {
+    let mut group = [0u8; 4];
+    let state = draw::fill(&mut group, p.state);
+    let mut next = there_and_back(p, group);
+    next.state = state;
+    next
+}
+
+// A code of random bits: one in 256 is legal.
+fn random_code(p: Part) -> Part {
+    let mut code = [0u8; 5];
+    let state = draw::fill(&mut code, p.state);
+    let mut next = decoded(p, code);
+    next.state = state;
+    next
+}
+
+// A code with one of its forty bits changed.
+fn changed(code: [u8; 5], choice: u8) -> [u8; 5] {
+    let bit = choice % 40;
+    let mut out = code;
+    let at = (bit / 8) as usize;
+    out[at] = out[at] ^ (128u8 >> (bit % 8));
+    out
+}
+
+fn damaged_code(p: Part) -> Part {
+    let mut group = [0u8; 4];
+    let filled = draw::fill(&mut group, p.state);
+    let state = draw::step(filled);
+    let code = changed(gcr::encode_group(&group), draw::byte_of(state));
+    let mut next = decoded(p, code);
+    next.state = state;
+    next
+}
+
+enum Set {
+    Prefixes,
+    RandomGroups,
+    RandomCodes,
+    DamagedCodes,
+}
+
+fn turn(set: Set, p: Part, k: u32) -> Part {
+    match set {
+        Set::Prefixes => prefix(p, k),
+        Set::RandomGroups => random_group(p),
+        Set::RandomCodes => random_code(p),
+        Set::DamagedCodes => damaged_code(p),
+    }
+}
+
+fn run(set: Set, seed: u32, turns: u32) -> Part {
+    let mut p = new_part(seed);
+    for k in 0..turns {
+        p = turn(set, p, k);
+    }
+    p
+}
+
+fn main() {
+    show(b"prefixes", run(Set::Prefixes, 0, 65536), b" back");
+    show(b"random", run(Set::RandomGroups, 1541, 8192), b" back");
+    show(b"codes", run(Set::RandomCodes, 1542, 65536), b" refused");
+    show(b"damaged", run(Set::DamagedCodes, 1543, 8192), b" refused");
+}

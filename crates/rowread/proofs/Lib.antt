@@ -1,3 +1,0 @@
-pub mod NthLaws
-pub mod LocalRows
-pub mod NthCalls

@@ -1,5 +1,0 @@
-pub mod Records
-pub mod Again
-pub mod Laying
-pub mod Refusing
-pub mod Calls

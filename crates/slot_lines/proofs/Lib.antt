@@ -1,2 +1,0 @@
-pub mod SlotLaws
-pub mod Lengths

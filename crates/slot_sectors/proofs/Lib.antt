@@ -1,2 +1,0 @@
-pub mod SectorLaws
-pub mod Lengths

@@ -1,0 +1,147 @@
+-- Clearing an image whose sectors lie apart: a sector is zeros afterwards where it is free, and else as it was.
+--     tracks-kept     a sector that is not free, or is not reached
+--     tracks-blank    one that is free
+use mathlib.Core.Path.{_≡_, refl, sym, ap, _∙_}
+use mathlib.Core.Logic.{_≢_}
+use mathlib.Core.Bool.{Bool, true, false, _||_, not, true≢false}
+use mathlib.Core.List.{List, [], _∷_}
+use Prim.Native.Nat.{ℕ, zero, suc, _≤_, _<_}
+use native.Mathlib.Decide.{ℕ-discrete}
+use native.Mathlib.Nat.{not-suc-le-zero}
+use native.Mathlib.Omega.{arith}
+use lib.Dec.{eqb}
+use lib.ListN.{length, replicate}
+use borrow.Author.Tests.{eqb-true, not-false}
+use Rattle.sector.specs.declared.Sector.{Sector}
+use Rattle.base.specs.Bytes.{anyNonzero}
+use Rattle.sector.specs.Rules.{good}
+use Rattle.image_sector.specs.Kinds.{Kind}
+use Rattle.reclaim.specs.Clearing.{Work, hasData, cleared, clearSector, sectorsDone, tracksDone}
+use Rattle.base.proofs.Picks.{pick-ind, never}
+use Rattle.reclaim.proofs.Counted.{sectors-hold, tracks-hold}
+
+or-left : (a b : Bool) → a || b ≡ false → a ≡ false
+or-left true b e = e
+or-left false b e = refl
+
+or-right : (a b : Bool) → a || b ≡ false → b ≡ false
+or-right true b e = absurd (true≢false e)
+or-right false b e = e
+
+-- where no byte is not zero, the list is zeros
+pub none-zeros : (l : List ℕ) → anyNonzero l ≡ false → l ≡ replicate (length l) 0
+unfolding anyNonzero
+none-zeros [] e = refl
+none-zeros (x ∷ xs) e =
+    let z : x ≡ 0 = eqb-true x 0 (not-false (eqb x 0) (or-left (not (eqb x 0)) (anyNonzero xs) e)) in
+    let r : xs ≡ replicate (length xs) 0 = none-zeros xs (or-right (not (eqb x 0)) (anyNonzero xs) e) in
+    ap (λ (y : ℕ). y ∷ xs) z ∙ ap (λ (ys : List ℕ). 0 ∷ ys) r
+
+-- an image whose sectors lie apart: Whole says which images have them all, In which sectors they are
+pub record LieApart (kind : Kind) (Whole : List ℕ → Type 0) (In : ℕ → ℕ → Type 0) : Type 0 where
+  pub stays : (t s : ℕ) (image : List ℕ) → In t s → Whole image → Whole (kind .zeroed t s image)
+  pub reads : (t s : ℕ) (image : List ℕ) → In t s → Whole image → kind .read image t s ≡ good (kind .read image t s .bytes)
+  pub long : (t s : ℕ) (image : List ℕ) → In t s → Whole image → length (kind .read image t s .bytes) ≡ 256
+  pub blank : (t s : ℕ) (image : List ℕ) → In t s → Whole image → kind .read (kind .zeroed t s image) t s ≡ good (replicate 256 0)
+  pub other : (t s t′ s′ : ℕ) (image : List ℕ) → In t s → In t′ s′ → ((t ≡ t′) → (s ≡ s′) → ⊥) → Whole image
+      → kind .read (kind .zeroed t s image) t′ s′ ≡ kind .read image t′ s′
+
+module _ (kind : Kind) (Whole : List ℕ → Type 0) (In : ℕ → ℕ → Type 0) (laws : LieApart kind Whole In) (sectors : ℕ → ℕ) (last : ℕ)
+    (toClear : ℕ → ℕ → Bool) where
+  abbrev reading : Work → ℕ → ℕ → Sector
+  reading w t s = kind .read (w .image) t s
+
+  turn-kept : (t s t′ s′ : ℕ) (w : Work) → In t s → In t′ s′ → Whole (w .image) → ((t ≡ t′) → (s ≡ s′) → toClear t s ≡ false)
+      → reading (clearSector kind toClear t s w) t′ s′ ≡ reading w t′ s′
+  unfolding clearSector cleared
+  turn-kept t s t′ s′ w i i′ g busy =
+      pick-ind (λ (v : Work). reading v t′ s′ ≡ reading w t′ s′) (toClear t s) _ _
+      (λ f. pick-ind (λ (v : Work). reading v t′ s′ ≡ reading w t′ s′) (hasData (reading w t s)) _ _
+      (λ h. laws .other t s t′ s′ (w .image) i i′ (λ p q. never ⊥ (toClear t s) f (busy p q)) g)
+      (λ h. refl))
+      (λ f. refl)
+
+  -- a sector without data is zeros already
+  no-data : (t s : ℕ) (image : List ℕ) → In t s → Whole image → hasData (kind .read image t s) ≡ false
+      → kind .read image t s ≡ good (replicate 256 0)
+  no-data t s image i g h =
+      let r = laws .reads t s image i g in
+      let o : kind .read image t s .ok ≡ true = ap (λ (x : Sector). x .ok) r in
+      let n : anyNonzero (kind .read image t s .bytes) ≡ false = (rw o at h) in
+      r ∙ ap good (none-zeros (kind .read image t s .bytes) n ∙ ap (λ (k : ℕ). replicate k 0) (laws .long t s image i g))
+
+  turn-blank : (t s : ℕ) (w : Work) → In t s → Whole (w .image) → toClear t s ≡ true
+      → reading (clearSector kind toClear t s w) t s ≡ good (replicate 256 0)
+  unfolding clearSector cleared
+  turn-blank t s w i g f =
+      rw f
+      (pick-ind (λ (v : Work). reading v t s ≡ good (replicate 256 0)) (hasData (reading w t s)) _ _
+      (λ h. laws .blank t s (w .image) i g)
+      (λ h. no-data t s (w .image) i g h))
+
+  module _ (t k : ℕ) (all : (s : ℕ) → s < k → In t s) where
+    whole-sectors : (w : Work) → Whole (w .image) → Whole (sectorsDone kind toClear t k w .image)
+    whole-sectors w g = sectors-hold kind sectors toClear Whole t k w (λ s l image h. laws .stays t s image (all s l) h) g
+
+  sectors-kept : (t k t′ s′ : ℕ) (w : Work) → ((s : ℕ) → s < k → In t s) → In t′ s′ → Whole (w .image)
+      → ((s : ℕ) → s < k → (t ≡ t′) → (s ≡ s′) → toClear t s ≡ false)
+      → reading (sectorsDone kind toClear t k w) t′ s′ ≡ reading w t′ s′
+  unfolding sectorsDone
+  sectors-kept t zero t′ s′ w all i g busy = refl
+  sectors-kept t (suc k) t′ s′ w all i g busy =
+      turn-kept t k t′ s′ (sectorsDone kind toClear t k w) (all k (omega arith)) i (whole-sectors t k (λ s l. all s (omega arith)) w g)
+      (λ p q. busy k (omega arith) p q)
+      ∙ sectors-kept t k t′ s′ w (λ s l. all s (omega arith)) i g (λ s l p q. busy s (omega arith) p q)
+
+  sectors-blank : (t k s′ : ℕ) (w : Work) → ((s : ℕ) → s < k → In t s) → Whole (w .image) → s′ < k → toClear t s′ ≡ true
+      → reading (sectorsDone kind toClear t k w) t s′ ≡ good (replicate 256 0)
+  unfolding sectorsDone
+  sectors-blank t zero s′ w all g l f = absurd (not-suc-le-zero l)
+  sectors-blank t (suc k) s′ w all g l f = go (ℕ-discrete s′ k) (λ m. sectors-blank t k s′ w (λ s l. all s (omega arith)) g m f)
+    where
+      before : Work
+      before = sectorsDone kind toClear t k w
+
+      ready : Whole (before .image)
+      ready = whole-sectors t k (λ s l. all s (omega arith)) w g
+
+      go : Dec (s′ ≡ k) → (s′ < k → reading before t s′ ≡ good (replicate 256 0))
+          → reading (clearSector kind toClear t k before) t s′ ≡ good (replicate 256 0)
+      go (yes e) r = rw e (turn-blank t k before (all k (omega arith)) ready (rw e at f))
+      go (no n) r = turn-kept t k t s′ before (all k (omega arith)) (all s′ l) ready (λ p q. absurd (n (sym q))) ∙ r (omega arith)
+
+  module _ (all : (t s : ℕ) → 0 < t → t ≤ last → s < sectors t → In t s) where
+    pub whole-tracks : (k : ℕ) (w : Work) → k ≤ last → Whole (w .image) → Whole (tracksDone kind sectors toClear k w .image)
+    whole-tracks k w l g =
+        tracks-hold kind sectors toClear Whole k w (λ t s p h b image q. laws .stays t s image (all t s p (omega arith) b) q) g
+
+    pub tracks-kept : (k t′ s′ : ℕ) (w : Work) → k ≤ last → In t′ s′ → Whole (w .image) → (t′ ≤ k → toClear t′ s′ ≡ false)
+        → reading (tracksDone kind sectors toClear k w) t′ s′ ≡ reading w t′ s′
+    unfolding tracksDone
+    tracks-kept zero t′ s′ w l i g busy = refl
+    tracks-kept (suc k) t′ s′ w l i g busy =
+        sectors-kept (suc k) (sectors (suc k)) t′ s′ (tracksDone kind sectors toClear k w) (λ s b. all (suc k) s (omega arith) l b) i
+        (whole-tracks k w (omega arith) g)
+        (λ s b p q. rw (p, q) (busy (omega arith)))
+        ∙ tracks-kept k t′ s′ w (omega arith) i g (λ h. busy (omega arith))
+
+    pub tracks-blank : (k t′ s′ : ℕ) (w : Work) → k ≤ last → 0 < t′ → t′ ≤ k → s′ < sectors t′ → Whole (w .image)
+        → toClear t′ s′ ≡ true → reading (tracksDone kind sectors toClear k w) t′ s′ ≡ good (replicate 256 0)
+    unfolding tracksDone
+    tracks-blank zero t′ s′ w l p h b g f = absurd (omega arith)
+    tracks-blank (suc k) t′ s′ w l p h b g f = go (ℕ-discrete t′ (suc k)) (λ m. tracks-blank k t′ s′ w (omega arith) p m b g f)
+      where
+        before : Work
+        before = tracksDone kind sectors toClear k w
+
+        ready : Whole (before .image)
+        ready = whole-tracks k w (omega arith) g
+
+        go : Dec (t′ ≡ suc k) → (t′ ≤ k → reading before t′ s′ ≡ good (replicate 256 0))
+            → reading (sectorsDone kind toClear (suc k) (sectors (suc k)) before) t′ s′ ≡ good (replicate 256 0)
+        go (yes e) r =
+            rw e (sectors-blank (suc k) (sectors (suc k)) s′ before (λ s q. all (suc k) s (omega arith) l q) ready (rw e at b) (rw e at f))
+        go (no n) r =
+            sectors-kept (suc k) (sectors (suc k)) t′ s′ before (λ s q. all (suc k) s (omega arith) l q) (all t′ s′ p (omega arith) b) ready
+            (λ s q d z. absurd (n (sym d)))
+            ∙ r (omega arith)

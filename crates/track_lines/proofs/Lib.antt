@@ -1,2 +1,0 @@
-pub mod TrackLaws
-pub mod Lengths

@@ -1,2 +1,0 @@
-pub mod TurnLaws
-pub mod Behind
