@@ -3,7 +3,7 @@
 use Prim.Native.Nat.{ℕ}
 use mathlib.Core.List.{List}
 use Rattle.base.specs.Choice.{pick}
-use Rattle.sector.specs.declared.Sector.{Sector}
+use Rattle.base.specs.declared.Sector.{Sector}
 use Rattle.sector.specs.declared.Replaced.{Replaced}
 use Rattle.sector.specs.declared.Replaced.the-variants.{Written as SectorWritten, Refused as NotReplaced}
 

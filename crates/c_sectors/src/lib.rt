@@ -4,8 +4,8 @@ ghost use mathlib.Core.Path.{_≡_};
 ghost use Rattle.sector.specs.Rules.{readUnique, readConsistent};
 ghost use Rattle.sector.specs.Replacing.{answerOf, replacedUnique, replacedConsistent};
 ghost use Rattle.c_sectors.specs.Numbers.{sectorNumber, bytesAfter, replacedNumber};
+use base::Sector;
 use sector::Replaced;
-use sector::Sector;
 
 // A sector that reads handed out, and 0; or the refusal's number.
 fn hand_out(found: Sector, out: &mut [u8; 256]) -> u64

@@ -8,7 +8,7 @@ use borrow.Author.Tests.{eq-eqb, ne-eqb}
 use Rattle.base.proofs.Parts.{home}
 use Rattle.geometry.specs.D64.{d64Place}
 use Rattle.scan.specs.declared.SectorRecord.{SectorRecord}
-use Rattle.sector.specs.declared.Sector.{Sector}
+use Rattle.base.specs.declared.Sector.{Sector}
 use Rattle.sector.specs.Rules.{readBy}
 use Rattle.sector.specs.Replacing.{replacedBy}
 use Rattle.image.specs.declared.Place.{Place}

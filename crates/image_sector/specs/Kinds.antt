@@ -4,8 +4,9 @@ use mathlib.Core.List.{List}
 use lib.ListN.{replicate}
 use Rattle.base.specs.Refusals.{noRecord}
 use Rattle.scan.specs.declared.SectorRecord.{SectorRecord}
-use Rattle.sector.specs.declared.Sector.{Sector}
-use Rattle.sector.specs.Rules.{refused, unique, consistent, readBy}
+use Rattle.base.specs.declared.Sector.{Sector}
+use Rattle.sector.specs.Rules.{unique, consistent, readBy}
+use Rattle.base.specs.Sectors.{refused}
 use Rattle.sector.specs.Replacing.{replacedBy}
 use Rattle.image.specs.declared.Place.{Place}
 use Rattle.image.specs.declared.Table.{Table}

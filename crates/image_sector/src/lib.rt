@@ -4,14 +4,15 @@ ghost use Prim.Native.Nat.{_+_, _<_, _≤_};
 ghost use lib.ListN.{length, replicate};
 ghost use Rattle.base.specs.Refusals.{noRecord};
 ghost use Rattle.geometry.specs.D64.{d64Place};
-ghost use Rattle.sector.specs.Rules.{refused, unique, consistent};
+ghost use Rattle.sector.specs.Rules.{unique, consistent};
+ghost use Rattle.base.specs.Sectors.{refused};
 ghost use Rattle.image.specs.Rings.{startOf, lengthOf, ringPlace};
 ghost use Rattle.image.specs.D64.{d64Zeroed, OnTracks};
 ghost use Rattle.image_sector.specs.Kinds.{readAt, zeroedAt, kindOf, kindAt};
 ghost use Rattle.image_sector.specs.Contracts.{Complete, InPlace};
+use base::Sector;
 use image::Place;
 use image::Table;
-use sector::Sector;
 
 // The kinds of image: how a sector of one is found, read and made zeros.
 pub enum ImageKind {
@@ -34,16 +35,6 @@ pub fn ring_place(table: Table, track: u8) -> Place
     Place::At(start, long)
 }
 
-fn no_record() -> Sector
-    ensures { λ r. ⌜ r ≡ refused noRecord ⌝ }
-{
-    Sector {
-        ok: false,
-        number: base::NO_RECORD,
-        bytes: [0u8; 256],
-    }
-}
-
 // A sector of the ring at a place, by the unique rule.
 fn read_unique(image: &[u8], place: Place, track: u8, sector: u8) -> Sector
     requires { ⌜ startOf place + lengthOf place ≤ length (now image) ⌝ }
@@ -54,8 +45,8 @@ fn read_unique(image: &[u8], place: Place, track: u8, sector: u8) -> Sector
             let end = start + long;
             sector::decode_sector_unique(&image[start..end], track, sector)
         }
-        Place::Absent => no_record(),
-        Place::Wrong => no_record(),
+        Place::Absent => base::refused_sector(base::NO_RECORD),
+        Place::Wrong => base::refused_sector(base::NO_RECORD),
     }
 }
 
@@ -69,8 +60,8 @@ fn read_consistent(image: &[u8], place: Place, track: u8, sector: u8) -> Sector
             let end = start + long;
             sector::decode_sector_consistent(&image[start..end], track, sector)
         }
-        Place::Absent => no_record(),
-        Place::Wrong => no_record(),
+        Place::Absent => base::refused_sector(base::NO_RECORD),
+        Place::Wrong => base::refused_sector(base::NO_RECORD),
     }
 }
 

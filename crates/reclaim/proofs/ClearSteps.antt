@@ -11,7 +11,7 @@ use Rattle.base.specs.Bytes.{anyNonzero}
 use Rattle.geometry.specs.Zones.{sectorsOf}
 use Rattle.geometry.specs.D64.{d64Place}
 use Rattle.geometry.proofs.ZoneLaws.{sectors-of}
-use Rattle.sector.specs.declared.Sector.{Sector}
+use Rattle.base.specs.declared.Sector.{Sector}
 use Rattle.sector.specs.Rules.{unique, consistent}
 use Rattle.image.specs.declared.Place.{Place}
 use Rattle.image.specs.declared.Table.{Table}

@@ -10,7 +10,7 @@ use Rattle.geometry.specs.declared.TrackCount.the-variants.{Tracks, NoD64}
 use Rattle.geometry.specs.D64.{tracksOf}
 use Rattle.geometry.proofs.D64Laws.{d64-facts, sum-mono}
 use Rattle.scan.specs.declared.SectorRecord.{SectorRecord}
-use Rattle.sector.specs.declared.Sector.{Sector}
+use Rattle.base.specs.declared.Sector.{Sector}
 use Rattle.image.specs.declared.Table.{Table}
 use Rattle.image.specs.Rings.{noTable}
 use Rattle.image.proofs.TableLaws.{AllInside, none-inside}

@@ -9,7 +9,7 @@ use lib.Bits.{bitAnd, and-mask}
 use lib.ListN.{length, getD, set}
 use borrow.Author.Tests.{eq-eqb, ne-eqb, le-leb, lt-leb}
 use Rattle.geometry.specs.Zones.{sectorsOf}
-use Rattle.sector.specs.declared.Sector.{Sector}
+use Rattle.base.specs.declared.Sector.{Sector}
 use Rattle.reclaim_directory.specs.Marks.{markPlace, unmarked}
 use Rattle.reclaim_directory.specs.Disk.{Disk, isAddress, disk1541}
 use Rattle.reclaim_directory.specs.Chains.{Reader, ended, brokenChain, chainFrom, chainAt, chainOf}

@@ -5,7 +5,7 @@ use mathlib.Core.List.{List}
 use lib.Dec.{eqb}
 use lib.ListN.{getD}
 use Rattle.base.specs.Choice.{pick}
-use Rattle.sector.specs.declared.Sector.{Sector}
+use Rattle.base.specs.declared.Sector.{Sector}
 use Rattle.reclaim_directory.specs.declared.Chain.{Chain}
 use Rattle.reclaim_directory.specs.Marks.{noMarks, marked, mark, unmarked}
 use Rattle.reclaim_directory.specs.Disk.{Disk, isAddress}

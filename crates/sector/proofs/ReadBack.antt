@@ -20,8 +20,9 @@ use Rattle.scan.specs.declared.SectorRecord.{SectorRecord}
 use Rattle.scan.specs.Scan.{visits, visitsOf, recordsFrom}
 use Rattle.scan.proofs.ScanLaws.{Every, Any, every-map}
 use Rattle.scan.proofs.EachRecord.{any-every, each-far, Spaced, all-spaced}
-use Rattle.sector.specs.declared.Sector.{Sector}
-use Rattle.sector.specs.Rules.{good, refused, recordsIn, recordsFor, unique, allLike, consistent, readBy}
+use Rattle.base.specs.declared.Sector.{Sector}
+use Rattle.sector.specs.Rules.{recordsIn, recordsFor, unique, allLike, consistent, readBy}
+use Rattle.base.specs.Sectors.{good, refused}
 use Rattle.sector.specs.Replacing.{dataBlock, writtenAt, placesIn, replacedBy}
 use Rattle.sector.specs.ReadBack.{Own, In, Each, Misses, placesFor, Apart, renewed, ReadsBack, Statement}
 use Rattle.sector.proofs.SectorLaws.{same-refl, read-scanned, ok-ring, written-length, Outside, written-else}

@@ -17,11 +17,12 @@ use Rattle.ring.specs.Bit.{IsRing, bits, bitAt}
 use Rattle.scan.specs.declared.SectorRecord.{SectorRecord}
 use Rattle.scan.proofs.ScanLaws.{Every, few-records}
 use Rattle.scan.proofs.EachRecord.{each-next}
-use Rattle.sector.specs.declared.Sector.{Sector}
+use Rattle.base.specs.declared.Sector.{Sector}
 use Rattle.sector.specs.declared.Replaced.{Replaced}
 use Rattle.sector.specs.declared.Replaced.the-variants.{Refused}
 use Rattle.sector.specs.declared.Copies.{Copies}
-use Rattle.sector.specs.Rules.{good, refused, recordsIn, recordsFor, unique, consistent, readBy}
+use Rattle.sector.specs.Rules.{recordsIn, recordsFor, unique, consistent, readBy}
+use Rattle.base.specs.Sectors.{good, refused}
 use Rattle.sector.specs.Replacing.{dataBlock, writtenAt, placesIn, replacedBy, answerOf}
 use Rattle.sector.specs.Copies.{firstPayload, allEqual, copiesOf, copiesIn, uniqueOf, consistentOf, SmallPlaces}
 use Rattle.sector.proofs.SectorLaws.{read-scanned}

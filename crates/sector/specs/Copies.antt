@@ -8,9 +8,10 @@ use Rattle.base.specs.Choice.{pick}
 use Rattle.base.specs.Refusals.{tooManyRecords, noRecord, ambiguous}
 use Rattle.base.specs.Bytes.{sameBytes}
 use Rattle.scan.specs.declared.SectorRecord.{SectorRecord}
-use Rattle.sector.specs.declared.Sector.{Sector}
+use Rattle.base.specs.declared.Sector.{Sector}
 use Rattle.sector.specs.declared.Copies.{Copies}
-use Rattle.sector.specs.Rules.{good, refused, recordsFor, allLike}
+use Rattle.sector.specs.Rules.{recordsFor, allLike}
+use Rattle.base.specs.Sectors.{good, refused}
 use Rattle.sector.specs.Replacing.{placesIn}
 
 -- the payload of the first copy, and whether all copies have it

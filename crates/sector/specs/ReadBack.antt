@@ -13,8 +13,9 @@ use Rattle.scan.specs.declared.SectorRecord.{SectorRecord}
 use Rattle.scan_visit.specs.Visit.{DataFault, NoSync, IllegalData, OtherMarker, FalseData, DataFound, BadData, AnotherHeader, GoodData}
 use Rattle.scan_visit.specs.Visit.{HeaderFound, BadHeader, TrueHeader, Visit}
 use Rattle.scan.specs.Scan.{visitsOf}
-use Rattle.sector.specs.declared.Sector.{Sector}
-use Rattle.sector.specs.Rules.{good, recordsIn, recordsFor, readBy}
+use Rattle.base.specs.declared.Sector.{Sector}
+use Rattle.sector.specs.Rules.{recordsIn, recordsFor, readBy}
+use Rattle.base.specs.Sectors.{good}
 use Rattle.sector.specs.Replacing.{placesIn, replacedBy}
 
 -- ---- what a visit looks at: from its place on, before this one

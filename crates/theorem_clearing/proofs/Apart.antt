@@ -12,9 +12,9 @@ use native.Mathlib.Omega.{arith}
 use lib.Dec.{eqb}
 use lib.ListN.{length, replicate}
 use borrow.Author.Tests.{eqb-true, not-false}
-use Rattle.sector.specs.declared.Sector.{Sector}
+use Rattle.base.specs.declared.Sector.{Sector}
 use Rattle.base.specs.Bytes.{anyNonzero}
-use Rattle.sector.specs.Rules.{good}
+use Rattle.base.specs.Sectors.{good}
 use Rattle.image_sector.specs.Kinds.{Kind}
 use Rattle.reclaim.specs.Clearing.{Work, hasData, cleared, clearSector, sectorsDone, tracksDone}
 use Rattle.base.proofs.Picks.{pick-ind, never}

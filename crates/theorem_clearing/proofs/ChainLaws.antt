@@ -16,7 +16,7 @@ use lib.ListN.{length, getD}
 use lib.Seq.{getD-set-same}
 use borrow.Author.Tests.{eqb-true, eq-eqb, ne-eqb, not-true}
 use Rattle.base.specs.Choice.{pick}
-use Rattle.sector.specs.declared.Sector.{Sector}
+use Rattle.base.specs.declared.Sector.{Sector}
 use Rattle.reclaim_directory.specs.declared.Chain.{Chain}
 use Rattle.reclaim_directory.specs.Marks.{markPlace, marked, mark, unmarked}
 use Rattle.reclaim_directory.specs.Disk.{Disk, isAddress}

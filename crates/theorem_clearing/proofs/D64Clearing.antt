@@ -15,9 +15,9 @@ use Rattle.geometry.specs.Zones.{sectorsOf}
 use Rattle.geometry.specs.D64.{sectorsTo, d64Place, tracksOf}
 use Rattle.geometry.proofs.ZoneLaws.{sectors-of}
 use Rattle.geometry.proofs.D64Laws.{d64-facts}
-use Rattle.sector.specs.declared.Sector.{Sector}
+use Rattle.base.specs.declared.Sector.{Sector}
 use Rattle.base.specs.Bytes.{anyNonzero}
-use Rattle.sector.specs.Rules.{good}
+use Rattle.base.specs.Sectors.{good}
 use Rattle.image.specs.D64.{blockAt, d64Sector, d64Zeroed, OnTracks}
 use Rattle.image.proofs.D64Sectors.{sector-reads, block-length, zeroed-length, zeroed-behind, zeroed-reads, other-reads}
 use Rattle.reclaim_directory.specs.declared.Chain.{Chain}

@@ -9,7 +9,7 @@ use lib.ListN.{length, take, drop, replicate, length-take, length-drop}
 use Rattle.base.proofs.Parts.{on-length}
 use Rattle.geometry.specs.Zones.{sectorsOf}
 use Rattle.scan.specs.declared.SectorRecord.{SectorRecord}
-use Rattle.sector.specs.declared.Sector.{Sector}
+use Rattle.base.specs.declared.Sector.{Sector}
 use Rattle.sector.specs.Rules.{unique, consistent}
 use Rattle.sector.specs.Replacing.{replacedBy}
 use Rattle.sector.proofs.SectorLaws.{replaced-length}

@@ -5,7 +5,7 @@ use mathlib.Core.Bool.{Bool, true, false}
 use mathlib.Core.List.{List}
 use lib.ListN.{length, drop, replicate}
 use Rattle.geometry.specs.D64.{sectorsTo}
-use Rattle.sector.specs.Rules.{good}
+use Rattle.base.specs.Sectors.{good}
 use Rattle.image.specs.D64.{d64Sector, OnTracks}
 use Rattle.reclaim.specs.declared.Outcome.{Outcome}
 use Rattle.reclaim.specs.declared.Outcome.the-variants.{Cleared, Refused}

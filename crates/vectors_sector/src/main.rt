@@ -1,10 +1,10 @@
 // Sectors read and replaced by both rules, compared by lines with what the original did (compare/README.md).
+use base::Sector;
 use libc::STDIN_FILENO;
 use libc::STDOUT_FILENO;
 use replay::Row;
 use replay_shared::sum;
 use sector::Replaced;
-use sector::Sector;
 
 // A line with its end, written.
 fn write(line: &mut [u8], at: usize) {

@@ -10,10 +10,10 @@ use borrow.Fn.Kinds.{In}
 use borrow.Fn.PlainCycle.{Measures, is, falls, and}
 use Rattle.page_text.proofs.put_decimal.Reads as put-decimal
 use Rattle.page_text.proofs.put_decimal.Kinds as put-decimal-kinds
-use Rattle.text.proofs.+put_decimal.Lts-put_decimal as put-decimal-lts
+use Rattle.page_text.proofs.+put_decimal.Lts-put_decimal as put-decimal-lts
 use Rattle.page_text.proofs.digit.Reads as digit-reads
-use Rattle.text.proofs.+put_decimal.{statement}
-use Rattle.text.proofs.+put_decimal.Tie.{close}
+use Rattle.page_text.proofs.+put_decimal.{statement}
+use Rattle.page_text.proofs.+put_decimal.Tie.{close}
 
 abbrev μ-put-decimal : Measures 1 put-decimal-kinds.ps ℕ
 μ-put-decimal κs a = a .1 .1 .0
