@@ -2,19 +2,19 @@
  * Fielbmaru: Commodore 1541 disk images, for C.
  *
  * Every function here is proved against a definition, for every input (see the repository's README.md): it reads and writes
- * inside what it is lent, it ends, and it answers what the definition says. It keeps nothing between calls, allocates nothing,
- * and may be called from several threads at once on different buffers.
+ * inside what it is lent, it ends, and it returns what the definition says. It keeps nothing between calls, allocates nothing,
+ * and may be called from several threads at once on different buffers. The rules are in docs/RULES.md.
  *
  * Build and link (x86-64 Linux):
  *
  *     bin/library                                               # proves it, and writes target/staticlib/libfielbmaru.a
  *     gcc -I include mine.c target/staticlib/libfielbmaru.a
  *
- * ANSWERS. Each function but fielbmaru_orbit answers 0 when it is done, or a refusal number. Refused, nothing that was lent has
- * changed: no byte, no row, no number behind a pointer. Where several refusals apply the first in a function's own list is the
- * answer.
+ * WHAT IS RETURNED. Each function but fielbmaru_orbit returns 0 when it is done, or a refusal number. Refused, nothing that was
+ * lent has changed: no byte, no row, no number behind a pointer. Where several refusals apply, the first in a function's own
+ * list is returned.
  *
- * WHAT A CALLER SEES TO. The proof says nothing of a call that breaks these:
+ * WHAT A CALLER MUST SEE TO. The proof says nothing about a call that breaks these:
  *   - a pointer is never NULL, also where its length is 0, and leads to as many bytes (or uint64_t or records, aligned) as its
  *     length says; uint8_t x[256] leads to 256 bytes;
  *   - what a function writes to (any pointer without const) overlaps nothing else that is lent in the same call, and no other
@@ -44,7 +44,10 @@
 extern "C" {
 #endif
 
-/* The refusal numbers. */
+/* The version of the library; the file VERSION has the same. */
+#define FIELBMARU_VERSION "0.9.0"
+
+/* The refusal numbers. (tests/refusals holds them to the library's other lists.) */
 #define FIELBMARU_DONE             0
 #define FIELBMARU_RING_EMPTY       1  /* the ring has no byte */
 #define FIELBMARU_RING_TOO_LONG    2  /* the ring has more than 65,535 bytes */
@@ -54,11 +57,11 @@ extern "C" {
 #define FIELBMARU_WRONG_LINK       6  /* a directory link is out of range, repeated, or unreadable */
 #define FIELBMARU_NO_ROOM          7  /* a lent output is shorter than needed */
 #define FIELBMARU_NO_RING          8  /* NIB encoding with no ring */
-#define FIELBMARU_TOO_MANY_RECORDS 9  /* more than 195 records: proved to happen on no ring */
-#define FIELBMARU_WRONG_SUM       10  /* payload bytes no multiple of 256; ring bytes not the sum of the ring lengths */
+#define FIELBMARU_TOO_MANY_RECORDS 9  /* more than 195 records: proved not to be possible */
+#define FIELBMARU_WRONG_SUM       10  /* payload bytes not a multiple of 256; ring bytes not the sum of the ring lengths */
 #define FIELBMARU_NO_RECORD       11  /* no valid record of that sector */
 #define FIELBMARU_AMBIGUOUS       12  /* several records (unique rule), or differing ones (consistent rule) */
-#define FIELBMARU_ILLEGAL_SYMBOL  13  /* a five-bit symbol outside the table; no function here answers it */
+#define FIELBMARU_ILLEGAL_SYMBOL  13  /* a five-bit symbol outside the table; no function here returns it */
 
 /* Sizes. */
 #define FIELBMARU_MAX_RING       65535  /* bytes of the longest ring */
@@ -89,7 +92,7 @@ extern "C" {
  *           9: header checksum inverted; 0x0B: both ids inverted. Every other code builds a normal sector.
  * id1, id2  the disk's id, as in the header blocks.
  *
- * Refused: WRONG_SUM (payloads_len is no multiple of 256), NO_ROOM (out_len is below the track's bytes).
+ * Refused: WRONG_SUM (payloads_len is not a multiple of 256), NO_ROOM (out_len is below the track's bytes).
  */
 uint64_t fielbmaru_build_track(uint8_t track, const uint8_t *payloads, size_t payloads_len, const uint8_t *codes, size_t codes_len,
                                uint8_t id1, uint8_t id2, uint8_t *out, size_t out_len);
@@ -156,8 +159,8 @@ uint64_t fielbmaru_replace_unique(uint8_t *ring, size_t ring_len, uint8_t track,
 uint64_t fielbmaru_replace_consistent(uint8_t *ring, size_t ring_len, uint8_t track, uint8_t sector, const uint8_t data[256]);
 
 /*
- * The span of a NIB window's orbit: its first so many bytes are one revolution. It answers the span, not a refusal number; 0
- * where the window is not FIELBMARU_WINDOW bytes. The zone is taken modulo 4.
+ * The span of a NIB window's orbit: so many of its first bytes are taken for one revolution, which is an estimate. It returns
+ * the span, not a refusal number; 0 where the window does not have FIELBMARU_WINDOW bytes. The zone is taken modulo 4.
  */
 uint64_t fielbmaru_orbit(const uint8_t *window, size_t window_len, uint8_t zone);
 
@@ -185,14 +188,17 @@ uint64_t fielbmaru_encode_nib(const uint64_t *lengths, size_t lengths_len, const
                               const uint8_t *rings, size_t rings_len, uint8_t *out, size_t out_len, uint64_t *written);
 
 /*
- * Clears a disk image: every sector of tracks 1 to 35 that the BAM has free becomes zeros, but for 18/0 and the sectors of the
- * directory, and but for sectors that cannot be read. G64 sectors are read by the unique rule, NIB sectors by the consistent
- * rule on the whole window.
+ * Clears a disk image: takes every sector of tracks 1 to 35 that the BAM has free, except 18/0 and the sectors of the directory,
+ * by track and sector.
+ *
+ * In a D64 each becomes 256 zeros. In a G64 or a NIB each is read at its turn, from the image as it then is (rings may overlap):
+ * one that reads and has a byte that is not zero gets a data block of zeros at each of its records, and one that is not readable
+ * is kept. G64 sectors are read by the unique rule, NIB sectors by the consistent rule on the whole window.
  *
  * free_sectors  how many sectors are free, and neither 18/0 nor of the directory.
- * changed       how many of those were cleared: they read, and had a byte that was not zero.
+ * changed       how many of those were zeroed: they read, and had a byte that was not zero.
  *
- * Refused: WRONG_IMAGE, WRONG_ENTRIES (G64 and NIB), NO_DIRECTORY, WRONG_LINK.
+ * Refused: a D64 WRONG_IMAGE, WRONG_LINK; a G64 or a NIB WRONG_IMAGE, WRONG_ENTRIES, NO_DIRECTORY, WRONG_LINK.
  */
 uint64_t fielbmaru_clear_d64(uint8_t *image, size_t image_len, uint64_t *free_sectors, uint64_t *changed);
 uint64_t fielbmaru_clear_g64(uint8_t *image, size_t image_len, uint64_t *free_sectors, uint64_t *changed);
