@@ -35,6 +35,12 @@ pub fn ring_place(table: Table, track: u8) -> Place
     Place::At(start, long)
 }
 
+fn no_record() -> Sector
+    ensures { λ r. ⌜ r ≡ refused noRecord ⌝ }
+{
+    base::refused_sector(base::NO_RECORD)
+}
+
 // A sector of the ring at a place, by the unique rule.
 fn read_unique(image: &[u8], place: Place, track: u8, sector: u8) -> Sector
     requires { ⌜ startOf place + lengthOf place ≤ length (now image) ⌝ }
@@ -45,8 +51,8 @@ fn read_unique(image: &[u8], place: Place, track: u8, sector: u8) -> Sector
             let end = start + long;
             sector::decode_sector_unique(&image[start..end], track, sector)
         }
-        Place::Absent => base::refused_sector(base::NO_RECORD),
-        Place::Wrong => base::refused_sector(base::NO_RECORD),
+        Place::Absent => no_record(),
+        Place::Wrong => no_record(),
     }
 }
 
@@ -60,8 +66,8 @@ fn read_consistent(image: &[u8], place: Place, track: u8, sector: u8) -> Sector
             let end = start + long;
             sector::decode_sector_consistent(&image[start..end], track, sector)
         }
-        Place::Absent => base::refused_sector(base::NO_RECORD),
-        Place::Wrong => base::refused_sector(base::NO_RECORD),
+        Place::Absent => no_record(),
+        Place::Wrong => no_record(),
     }
 }
 

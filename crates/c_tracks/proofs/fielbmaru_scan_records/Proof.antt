@@ -320,6 +320,6 @@ fielbmaru-scan-records-spec 𝓤 H 𝓜 𝓖 𝓡 =
     (code.unfolded 𝓤 H 𝓜 𝓡)
     (scan-records-meets 𝓤 H (𝓖 .A) (givenOf 𝓤 H 𝓜 𝓖) (𝓜 .mem) (𝓡 .run) (tablesOf 𝓤 H 𝓜 (tables 𝓤 H 𝓜 𝓡 code.env))
     (cited 𝓤 H (ScanInto 𝓤 H (𝓖 .A) (𝓜 .mem) (𝓡 .run)) 𝓜 𝓡 code.env #rows·scan-into-rows scan-into-rows-def.routine
-    code.calls-rows·scan-into-rows (scan-into-rows-thm.met 𝓤 H 𝓜 𝓖 𝓡))
+    code.calls-scan-rows·scan-into-rows (scan-into-rows-thm.met 𝓤 H 𝓜 𝓖 𝓡))
     (cited 𝓤 H (Tell 𝓤 H (𝓖 .A) (𝓜 .mem) (𝓡 .run)) 𝓜 𝓡 code.env #fielbmaru-tracks·tell-scanned tell-scanned-def.routine
-    code.calls-fielbmaru-tracks·tell-scanned (tell-scanned-thm.met 𝓤 H 𝓜 𝓖 𝓡)))
+    code.calls-c-tracks·tell-scanned (tell-scanned-thm.met 𝓤 H 𝓜 𝓖 𝓡)))

@@ -375,5 +375,5 @@ list-rows-spec 𝓤 H 𝓜 𝓖 𝓡 =
     (list-rows-meets 𝓤 H (𝓖 .A) (givenOf 𝓤 H 𝓜 𝓖) (𝓜 .mem) (𝓡 .run) (tablesOf 𝓤 H 𝓜 (tables 𝓤 H 𝓜 𝓡 code.env))
     (cited 𝓤 H (NextRec 𝓤 H (𝓖 .A) (𝓜 .mem) (𝓡 .run)) 𝓜 𝓡 code.env #scan·next-record next-record-def.routine code.calls-scan·next-record
     (next-record-thm.met 𝓤 H 𝓜 𝓖 𝓡))
-    (cited 𝓤 H (StoreRow 𝓤 H (𝓖 .A) (𝓜 .mem) (𝓡 .run)) 𝓜 𝓡 code.env #rows·store-row store-row-def.routine code.calls-rows·store-row
+    (cited 𝓤 H (StoreRow 𝓤 H (𝓖 .A) (𝓜 .mem) (𝓡 .run)) 𝓜 𝓡 code.env #rows·store-row store-row-def.routine code.calls-scan-rows·store-row
     (store-row-thm.met 𝓤 H 𝓜 𝓖 𝓡)))

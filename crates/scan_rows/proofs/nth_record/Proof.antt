@@ -323,10 +323,10 @@ nth-record-spec 𝓤 H 𝓜 𝓖 𝓡 =
     (tables 𝓤 H 𝓜 𝓡 code.env .C) (tables 𝓤 H 𝓜 𝓡 code.env .Λ) #rowread·nth-record code.function (code.unfolded 𝓤 H 𝓜 𝓡)
     (nth-record-meets 𝓤 H (𝓖 .A) (givenOf 𝓤 H 𝓜 𝓖) (𝓜 .mem) (𝓡 .run) (tablesOf 𝓤 H 𝓜 (tables 𝓤 H 𝓜 𝓡 code.env))
     (cited 𝓤 H (ZeroRecord 𝓤 H (𝓖 .A) (𝓜 .mem) (𝓡 .run)) 𝓜 𝓡 code.env #rowread·zero-record zero-record-def.routine
-    code.calls-rowread·zero-record (zero-record-thm.met 𝓤 H 𝓜 𝓖 𝓡))
+    code.calls-scan-rows·zero-record (zero-record-thm.met 𝓤 H 𝓜 𝓖 𝓡))
     (cited 𝓤 H (ScanInto 𝓤 H (𝓖 .A) (𝓜 .mem) (𝓡 .run)) 𝓜 𝓡 code.env #rows·scan-into-rows scan-into-rows-def.routine
-    code.calls-rows·scan-into-rows (scan-into-rows-thm.met 𝓤 H 𝓜 𝓖 𝓡))
+    code.calls-scan-rows·scan-into-rows (scan-into-rows-thm.met 𝓤 H 𝓜 𝓖 𝓡))
     (cited 𝓤 H (ReadRow 𝓤 H (𝓖 .A) (𝓜 .mem) (𝓡 .run)) 𝓜 𝓡 code.env #rowread·read-row read-row-def.routine
-    code.calls-rowread·read-row (read-row-thm.met 𝓤 H 𝓜 𝓖 𝓡))
+    code.calls-scan-rows·read-row (read-row-thm.met 𝓤 H 𝓜 𝓖 𝓡))
     (cited 𝓤 H (OfScan 𝓤 H (𝓖 .A) (𝓜 .mem) (𝓡 .run)) 𝓜 𝓡 code.env #rowread·of-scan of-scan-def.routine
-    code.calls-rowread·of-scan (of-scan-thm.met 𝓤 H 𝓜 𝓖 𝓡)))
+    code.calls-scan-rows·of-scan (of-scan-thm.met 𝓤 H 𝓜 𝓖 𝓡)))

@@ -260,7 +260,7 @@ read-row-spec 𝓤 H 𝓜 𝓖 𝓡 =
     entered 𝓤 H (tripleOf 𝓤 H (𝓖 .A) read-row.signature (read-row.spec 𝓤 H (𝓖 .A) (𝓜 .mem) (𝓡 .run)))
     (tables 𝓤 H 𝓜 𝓡 code.env .C) (tables 𝓤 H 𝓜 𝓡 code.env .Λ) #rowread·read-row code.function (code.unfolded 𝓤 H 𝓜 𝓡)
     (read-row-meets 𝓤 H (𝓖 .A) (givenOf 𝓤 H 𝓜 𝓖) (𝓜 .mem) (𝓡 .run) (tablesOf 𝓤 H 𝓜 (tables 𝓤 H 𝓜 𝓡 code.env))
-    (cited 𝓤 H (ARow 𝓤 H (𝓖 .A) (𝓜 .mem) (𝓡 .run)) 𝓜 𝓡 code.env #rowread·a-row a-row-def.routine code.calls-rowread·a-row
+    (cited 𝓤 H (ARow 𝓤 H (𝓖 .A) (𝓜 .mem) (𝓡 .run)) 𝓜 𝓡 code.env #rowread·a-row a-row-def.routine code.calls-scan-rows·a-row
     (a-row-thm.met 𝓤 H 𝓜 𝓖 𝓡))
-    (cited 𝓤 H (NoRow 𝓤 H (𝓖 .A) (𝓜 .mem) (𝓡 .run)) 𝓜 𝓡 code.env #rowread·no-row no-row-def.routine code.calls-rowread·no-row
+    (cited 𝓤 H (NoRow 𝓤 H (𝓖 .A) (𝓜 .mem) (𝓡 .run)) 𝓜 𝓡 code.env #rowread·no-row no-row-def.routine code.calls-scan-rows·no-row
     (no-row-thm.met 𝓤 H 𝓜 𝓖 𝓡)))

@@ -357,7 +357,7 @@ scan-into-rows-spec 𝓤 H 𝓜 𝓖 𝓡 =
     entered 𝓤 H (tripleOf 𝓤 H (𝓖 .A) scan-into-rows.signature (scan-into-rows.spec 𝓤 H (𝓖 .A) (𝓜 .mem) (𝓡 .run)))
     (tables 𝓤 H 𝓜 𝓡 code.env .C) (tables 𝓤 H 𝓜 𝓡 code.env .Λ) #rows·scan-into-rows code.function (code.unfolded 𝓤 H 𝓜 𝓡)
     (scan-into-rows-meets 𝓤 H (𝓖 .A) (givenOf 𝓤 H 𝓜 𝓖) (𝓜 .mem) (𝓡 .run) (tablesOf 𝓤 H 𝓜 (tables 𝓤 H 𝓜 𝓡 code.env))
-    (cited 𝓤 H (Refusal 𝓤 H (𝓖 .A) (𝓜 .mem) (𝓡 .run)) 𝓜 𝓡 code.env #rows·refusal refusal-def.routine code.calls-rows·refusal
+    (cited 𝓤 H (Refusal 𝓤 H (𝓖 .A) (𝓜 .mem) (𝓡 .run)) 𝓜 𝓡 code.env #rows·refusal refusal-def.routine code.calls-scan-rows·refusal
     (refusal-thm.met 𝓤 H 𝓜 𝓖 𝓡))
-    (cited 𝓤 H (ListRows 𝓤 H (𝓖 .A) (𝓜 .mem) (𝓡 .run)) 𝓜 𝓡 code.env #rows·list-rows list-rows-def.routine code.calls-rows·list-rows
+    (cited 𝓤 H (ListRows 𝓤 H (𝓖 .A) (𝓜 .mem) (𝓡 .run)) 𝓜 𝓡 code.env #rows·list-rows list-rows-def.routine code.calls-scan-rows·list-rows
     (list-rows-thm.met 𝓤 H 𝓜 𝓖 𝓡)))

@@ -30,12 +30,16 @@ returns-3 c =
     c .refused-sector3 .ensures
     ∙ rw (le-ltb _ _ (i .before .before .if1 .left), ne-eqb _ _ (i .if2 .left), not-true (a .found .equal) (c .before .if3 .taken))
 
+good-sector-requires : tie.Need-good-sector-requires
+good-sector-requires c κs = search needs
+
 returns-4 : tie.Need-returns-4
 unfolding consistentOf
 returns-4 c =
-    let i = c .before .before .before in
+    let i = c .before .before .before .before in
     let a = i .before .before .before .before .args in
-    rw (le-ltb _ _ (i .before .before .if1 .left), ne-eqb _ _ (i .if2 .left), not-false (a .found .equal) (c .before .if3 .left))
+    c .good-sector .ensures
+    ∙ rw (le-ltb _ _ (i .before .before .if1 .left), ne-eqb _ _ (i .if2 .left), not-false (a .found .equal) (c .before .before .if3 .left))
 
 pub consistent-of-spec : {M : Type 1} → statement M
 consistent-of-spec =
@@ -47,4 +51,5 @@ consistent-of-spec =
     returns-2
     refused-sector-requires-3
     returns-3
+    good-sector-requires
     returns-4)

@@ -29,11 +29,15 @@ returns-3 c =
     c .refused-sector3 .ensures
     ∙ rw (le-ltb _ _ (i .before .before .if1 .left), ne-eqb _ _ (i .if2 .left), lt-ltb _ _ (c .before .if3 .taken))
 
+good-sector-requires : tie.Need-good-sector-requires
+good-sector-requires c κs = search needs
+
 returns-4 : tie.Need-returns-4
 unfolding uniqueOf
 returns-4 c =
-    let i = c .before .before .before in
-    rw (le-ltb _ _ (i .before .before .if1 .left), ne-eqb _ _ (i .if2 .left), le-ltb _ _ (c .before .if3 .left))
+    let i = c .before .before .before .before in
+    c .good-sector .ensures
+    ∙ rw (le-ltb _ _ (i .before .before .if1 .left), ne-eqb _ _ (i .if2 .left), le-ltb _ _ (c .before .before .if3 .left))
 
 pub unique-of-spec : {M : Type 1} → statement M
 unique-of-spec =
@@ -45,4 +49,5 @@ unique-of-spec =
     returns-2
     refused-sector-requires-3
     returns-3
+    good-sector-requires
     returns-4)
