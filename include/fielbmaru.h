@@ -86,8 +86,8 @@ extern "C" {
 /*
  * Builds a track: FIELBMARU_TRACK_BYTES(track) bytes at the front of `out`; what follows them in `out` is kept.
  *
- * payloads  256 bytes a sector, from sector 0 on. Sectors without are zeros; surplus is not looked at.
- * codes     an error code a sector, as in the error bytes of a D64. Sectors without have code 1, which is no error.
+ * payloads  256 bytes for each sector, from sector 0 on. Sectors without a payload are zeros; surplus is not looked at.
+ * codes     an error code for each sector, as in the error bytes of a D64. Sectors without one have code 1, which is no error.
  *           2: no header (its place is gap); 3: no sector at all; 4: marker 00 for the data block's 07; 5: data checksum inverted;
  *           9: header checksum inverted; 0x0B: both ids inverted. Every other code builds a normal sector.
  * id1, id2  the disk's id, as in the header blocks.
@@ -101,9 +101,9 @@ uint64_t fielbmaru_build_track(uint8_t track, const uint8_t *payloads, size_t pa
  * Lists every sector record of a ring, in the order in which one revolution from the start bit on meets them. A sector may be
  * met more than once.
  *
- * rows      two numbers a record: its sector, and the bit where its data block begins, counted on from the scan's start past the
+ * rows      two numbers for each record: its sector, and the bit where its data block begins, counted on from the scan's start past the
  *           ring's end (not reduced).
- * payloads  256 bytes a record.
+ * payloads  256 bytes for each record.
  * count     how many records there are. Rows and payloads behind them are kept.
  *
  * rows_len counts numbers, not bytes. Room for 195 records is needed, whatever is found: FIELBMARU_SCAN_ROWS and
@@ -133,8 +133,8 @@ uint64_t fielbmaru_scan_records(const uint8_t *ring, size_t ring_len, uint8_t tr
 /*
  * Reads all sectors of a track, each by its first record.
  *
- * payloads  256 bytes a sector, from sector 0 on; a missing sector's are zeros. Needs 256 * FIELBMARU_SECTORS(track) bytes.
- * statuses  a byte a sector: FIELBMARU_HANDED_OUT or FIELBMARU_MISSING. Needs FIELBMARU_SECTORS(track) bytes.
+ * payloads  256 bytes for each sector, from sector 0 on; zeros where a sector is missing. Needs 256 * FIELBMARU_SECTORS(track) bytes.
+ * statuses  a byte for each sector: FIELBMARU_HANDED_OUT or FIELBMARU_MISSING. Needs FIELBMARU_SECTORS(track) bytes.
  * found     how many sectors were handed out. Bytes behind the track's sectors are kept.
  *
  * Refused: NO_ROOM, RING_EMPTY, RING_TOO_LONG, TOO_MANY_RECORDS.
@@ -166,7 +166,7 @@ uint64_t fielbmaru_orbit(const uint8_t *window, size_t window_len, uint8_t zone)
 
 /*
  * Where the ring of a slot lies in a NIB file: it begins at byte `at` of the image and has `span` bytes; `zone` is 0 to 3. For
- * a slot that the file has not, all three are 0, which is no refusal.
+ * a slot that the file does not have, all three are 0, which is not a refusal.
  *
  * Refused: WRONG_IMAGE, WRONG_ENTRIES (also for a slot above 83).
  */
@@ -175,7 +175,7 @@ uint64_t fielbmaru_nib_slot(const uint8_t *image, size_t image_len, uint64_t slo
 /*
  * Makes a NIB file of rings, each repeated over a window of its own.
  *
- * lengths  the length of each slot's ring, from slot 0 on; 0 for a slot without. At most 84 are looked at, missing ones are 0.
+ * lengths  the length of each slot's ring, from slot 0 on; 0 for a slot without one. At most 84 are looked at; missing ones are 0.
  * zones    the zone of each slot, taken modulo 4; missing ones are 0.
  * rings    the bytes of all rings, joined in the order of the slots.
  * written  the size of the file: 256 + 8192 for each ring. `out` behind it is kept.

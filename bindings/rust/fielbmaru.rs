@@ -46,9 +46,9 @@ pub enum Refusal {
     NoRoom = 7,
     /// NIB encoding with no ring.
     NoRing = 8,
-    /// More than 195 records: proved to happen on no ring.
+    /// More than 195 records: proved not to be possible.
     TooManyRecords = 9,
-    /// Payload bytes no multiple of 256; ring bytes not the sum of the ring lengths.
+    /// Payload bytes not a multiple of 256; ring bytes not the sum of the ring lengths.
     WrongSum = 10,
     /// No valid record of that sector.
     NoRecord = 11,
@@ -138,10 +138,10 @@ pub const fn sectors(track: u8) -> usize {
 
 /// Builds a track at the front of `out`, and hands back that part; what follows it is kept.
 ///
-/// `payloads` has 256 bytes a sector from sector 0 on, `codes` an error code a sector, as in the error bytes of a D64. Sectors
-/// without are zeros, and code 1, which is no error; surplus is not looked at.
+/// `payloads` has 256 bytes for each sector from sector 0 on, `codes` an error code for each, as in the error bytes of a D64.
+/// Sectors without are zeros and have code 1, which is no error; surplus is not looked at.
 ///
-/// Refused: `WrongSum` (payload bytes no multiple of 256), `NoRoom` (`out` is shorter than [`track_bytes`]).
+/// Refused: `WrongSum` (payload bytes not a multiple of 256), `NoRoom` (`out` is shorter than [`track_bytes`]).
 pub fn build_track<'a>(
     track: u8,
     payloads: &[u8],
