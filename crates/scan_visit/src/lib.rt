@@ -2,6 +2,7 @@
 ghost use mathlib.Core.Path.{_≡_};
 ghost use Prim.Native.Nat.{_+_, _*_, _^_, _<_};
 ghost use lib.ListN.{length};
+ghost use Rattle.geometry.specs.Blocks.{headerBits, blockBits};
 ghost use Rattle.gcr.specs.Places.{decodeAt};
 ghost use Rattle.gcr_blocks.specs.Blocks.{groupsIn};
 ghost use Rattle.ring.specs.Bit.{IsRing, bitAt};
@@ -68,7 +69,7 @@ fn checked_header(b: &[u8], track: u8) -> HeaderAt
 // The header at `place`.
 pub fn header_at(ring: &[u8], track: u8, place: usize) -> HeaderAt
     requires { ⌜ IsRing (now ring) ⌝ }
-    requires { ⌜ place + 80 < 2 ^ 64 ⌝ }
+    requires { ⌜ place + headerBits < 2 ^ 64 ⌝ }
     ensures { λ r. ⌜ r ≡ headerAnswer (visit (bitAt (now (ring .entry))) track place .found) ⌝ }
 {
     let mut code = [0u8; 10];
@@ -111,7 +112,7 @@ fn checked_block(b: &[u8]) -> DataBlock
 // The data block at `place`, where its marker is not a header's.
 fn block_at(ring: &[u8], place: usize) -> DataBlock
     requires { ⌜ IsRing (now ring) ⌝ }
-    requires { ⌜ place + 2600 < 2 ^ 64 ⌝ }
+    requires { ⌜ place + blockBits < 2 ^ 64 ⌝ }
     ensures { λ r. ⌜ r ≡ dataAnswer (byData place (decodeAt (bitAt (now (ring .entry))) place 260)) ⌝ }
 {
     let mut code = [0u8; 325];
@@ -125,7 +126,7 @@ fn block_at(ring: &[u8], place: usize) -> DataBlock
 // What stands at the data place `place`; the marker is looked at first, in the first five bytes alone.
 pub fn data_at(ring: &[u8], place: usize) -> DataBlock
     requires { ⌜ IsRing (now ring) ⌝ }
-    requires { ⌜ place + 2600 < 2 ^ 64 ⌝ }
+    requires { ⌜ place + blockBits < 2 ^ 64 ⌝ }
     ensures { λ r. ⌜ r ≡ dataAnswer (dataAt (bitAt (now (ring .entry))) place) ⌝ }
 {
     let mut code = [0u8; 5];

@@ -88,11 +88,7 @@ fn data_bytes(code: u8, payload: &[u8]) -> [u8; 260]
     let sum = inverted_if(code == 0x05, base::xor_of(payload));
     let mut block = [0u8; 260];
     block[0] = marker(code);
-    let mut i: usize = 0;
-    while i < 256 {
-        block[i + 1] = payload[i];
-        i += 1;
-    }
+    base::store(&mut block, 1, payload);
     block[257] = sum;
     block
 }
