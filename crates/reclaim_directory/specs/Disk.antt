@@ -42,7 +42,7 @@ bitmapFree bytes place sector = eqb (bitOf (getD bytes (place + sector / 8) 0) (
 unfoldable pub entryFree : List ℕ → ℕ → ℕ → ℕ → ℕ → Bool
 entryFree bytes place first track sector = bitmapFree bytes (place + 4 * (track - first) + 1) sector
 
--- tracks 1 to 35 are cleared, by the entries in 18/0 from byte 4 on; 18/0 is kept
+-- tracks 1 to 35 are cleared, by the entries in 18/0 from byte 4 on; 18/0 is kept; there are marks for 42 tracks
 abbrev pub disk1541 : Disk
 disk1541 =
     record {

@@ -19,7 +19,6 @@ use Rattle.base.specs.Sectors.{good}
 use Rattle.image_sector.specs.Kinds.{Kind}
 use Rattle.reclaim.specs.Clearing.{Work, hasData, atTurn, clearSector, sectorsDone, tracksDone}
 use Rattle.reclaim.specs.Counting.{countOn, countTo}
-use Rattle.base.specs.Choice.{pick}
 use Rattle.base.proofs.Picks.{pick-ind, never}
 use Rattle.reclaim.proofs.Counted.{turn-exact, sectors-hold, tracks-hold}
 

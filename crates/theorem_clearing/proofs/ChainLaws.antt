@@ -18,7 +18,7 @@ use Rattle.base.specs.Choice.{pick}
 use Rattle.base.specs.declared.Sector.{Sector}
 use Rattle.reclaim_directory.specs.declared.Chain.{Chain}
 use Rattle.reclaim_directory.specs.Marks.{markPlace, marked, mark, unmarked}
-use Rattle.reclaim_directory.specs.Disk.{Reader, Address, address, Disk, isAddress}
+use Rattle.reclaim_directory.specs.Disk.{Reader, address, Disk, isAddress}
 use Rattle.reclaim_directory.specs.Chains.{ended, brokenChain, nextTrack, nextSector, maygo, chainFrom, chainAt}
 use Rattle.theorem_clearing.specs.Links.{next, linked, markOf, IsChain, Keeps}
 use Rattle.base.proofs.Picks.{pick-ind, picks, and-left, and-right}

@@ -5,7 +5,7 @@
 use mathlib.Core.Path.{_≡_, refl, sym, ap, ap₂, _∙_, subst}
 use mathlib.Core.Bool.{Bool, true, false, _&&_, not, and-false}
 use mathlib.Core.List.{List}
-use Prim.Native.Nat.{ℕ, suc, _+_, _*_, _≤_, _<_}
+use Prim.Native.Nat.{ℕ, suc, _*_, _≤_, _<_}
 use native.Mathlib.Omega.{arith}
 use lib.ListN.{length, drop, replicate}
 use Rattle.base.specs.Choice.{pick}
@@ -20,7 +20,7 @@ use Rattle.image.proofs.D64Sectors.{sector-reads, block-length, zeroed-length, 
 use Rattle.image_sector.specs.Kinds.{d64Kind}
 use Rattle.reclaim_directory.specs.declared.Chain.{Chain}
 use Rattle.reclaim_directory.specs.Marks.{marked, unmarked}
-use Rattle.reclaim_directory.specs.Disk.{Reader, Disk, bamSector, isAddress, marksAtFirst, toClear}
+use Rattle.reclaim_directory.specs.Disk.{Reader, Disk, bamSector, isAddress, marksAtFirst}
 use Rattle.reclaim_directory.specs.Chains.{brokenChain, nextTrack, nextSector, chainAt, chainOf}
 use Rattle.reclaim.specs.declared.Outcome.the-variants.{Cleared}
 use Rattle.reclaim.specs.Clearing.{Work, hasData, tracksDone, untouched, Answer, refuse, finish, freeOn, clearing}

@@ -3,7 +3,7 @@
 --     d64-counted     both counts, exactly: the free sectors, and those of them that had data in the image as it came
 --     twice           clearing once more changes nothing, and answers the same free count
 use mathlib.Core.Path.{_≡_, refl, sym, ap, _∙_, subst}
-use mathlib.Core.Bool.{Bool, true}
+use mathlib.Core.Bool.{true}
 use mathlib.Core.List.{List}
 use Prim.Native.Nat.{ℕ, _≤_}
 use native.Mathlib.Omega.{arith}
