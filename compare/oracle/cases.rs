@@ -1,7 +1,7 @@
 // Writes rows: the words that the cases of each kind are made of.
 use crate::draw::Chooser;
 use crate::fdd1541::gcr;
-use crate::machine::{CODES, SCRATCH};
+use crate::machine::{CODES, SCRATCH, SOURCE, TARGET};
 use crate::rows;
 
 pub const ZONE_TRACKS: [u8; 4] = [1, 18, 25, 31];
@@ -174,6 +174,9 @@ impl Cases {
 
 pub fn of_kind(kind: &str, seed: u64, scale: u64) -> Vec<u8> {
     let mut c = Cases { rows: String::new(), choose: Chooser::new(seed), scale };
+    // Stored kinds follow one another: each begins with buffers of zeros.
+    c.store(Buffer::Target, 0, TARGET as u32, 0);
+    c.store(Buffer::Source, 0, SOURCE as u32, 0);
     match kind {
         "build" => crate::cases_build::all(&mut c),
         "scan" => crate::cases_scan::all(&mut c),

@@ -1,4 +1,4 @@
-// The lines of the program dropouts: the original's built tracks, a stretch of each forced to zero with its own bit
+// The lines of replay_dropouts: the original's built tracks, a stretch of each forced to zero with its own bit
 // writer, read with its own reader from many bits; and what became of each sector, sorted here.
 use crate::draw::{Bytes, Sum};
 use crate::fdd1541::gcr;

@@ -1,4 +1,4 @@
-// The lines of vectors_groups: the original's encode_group and decode_group on groups made here.
+// The lines of replay_groups: the original's encode_group and decode_group on groups made here.
 use crate::draw::{Bytes, Sum};
 use crate::fdd1541::gcr;
 

@@ -1,6 +1,6 @@
 // The original beside the port: its files, included unchanged (fdd1541.rs), and a program that asks them.
-//   oracle groups               the lines of vectors_groups
-//   oracle dropouts             the lines of dropouts
+//   oracle groups               the lines of replay_groups
+//   oracle dropouts             the lines of replay_dropouts
 //   oracle cases KIND [SEED [SCALE]]   rows that describe cases, for a program's standard input
 //   oracle answer               reads rows, writes the original's answers
 // compare/README.md describes rows and answers.

@@ -1,3 +1,2 @@
 pub mod DrawLaws
 pub mod SumLaws
-pub mod FieldLaws

@@ -1,3 +1,2 @@
 pub mod Draw
 pub mod Sum
-pub mod Fields

@@ -1,4 +1,3 @@
-// What the programs that replay the original's answers share: the generator, the checksum, fields of rows.
+// What the programs that replay the original's answers share: the generator, the checksum.
 pub mod draw;
-pub mod fields;
 pub mod sum;

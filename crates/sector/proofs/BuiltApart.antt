@@ -1,31 +1,24 @@
 -- Every sector of a built track stands apart (specs/ReadBack.antt), so what is written there is read back.
 use mathlib.Core.Path.{_≡_, refl, sym, ap, ap₂, _∙_, subst}
 use mathlib.Core.Logic.{_⊎_, inl, inr}
-use mathlib.Core.Bool.{Bool, true, false, not}
+use mathlib.Core.Bool.{Bool, true, false}
 use mathlib.Core.List.{List, [], _∷_}
-use Prim.Native.Nat.{ℕ, _+_, _-_, _*_, _/_, _%_, _≤_, _<_}
+use Prim.Native.Nat.{ℕ, _+_, _-_, _*_, _/_, _%_, _<_}
 use native.Mathlib.Omega.{arith}
-use native.Mathlib.Decide.{decLt}
 use lib.Arith.{digits-div, digits-mod}
 use lib.Dec.{eqb}
-use lib.ListN.{length, getD, List·getD-eq-default}
+use lib.ListN.{getD}
 use Rattle.base.specs.Choice.{pick}
-use Rattle.base.specs.Lists.{joined}
 use Rattle.base.proofs.Tests.{eq-of}
-use Rattle.base.proofs.Lists.{length-tab, getD-tab}
 use Rattle.geometry.specs.Zones.{zoneOf, sectorsIn, capacityIn, slotStart}
 use Rattle.geometry.proofs.ZoneLaws.{zone-lt, sectors-in, start-zero}
-use Rattle.gcr.proofs.EncodeLaws.{at, nibble, Bytes}
 use Rattle.ring.specs.Bit.{bits, bitAt}
-use Rattle.track_build.specs.Blocks.{headerBytes, dataBytes}
-use Rattle.track_build.specs.Slots.{codeOf, payloadOf, slot, builtTrack}
-use Rattle.track_build.proofs.Unrolled.{Track}
-use Rattle.track_build.proofs.SlotBits.{headed}
-use Rattle.track_build.proofs.TrackBits.{slotAt, st, ln, length-ring, ring-track}
-use Rattle.track_build.proofs.Meaning.{header-lt, data-long, data-lt, mark-is}
+use Rattle.track_build.specs.Slots.{codeOf}
+use Rattle.track_build.proofs.TrackBits.{st, ln, length-ring}
+use Rattle.track_build.proofs.Picture.{headerOf, blockOf, slotsJoined, built-is, unrolled}
 use Rattle.scan.specs.declared.SectorRecord.{SectorRecord}
 use Rattle.scan.specs.Scan.{recordsFrom}
-use Rattle.scan.proofs.ScanLaws.{Every, Any}
+use Rattle.scan.proofs.ScanLaws.{Any}
 use Rattle.scan.proofs.EachRecord.{any-every}
 use Rattle.sector.specs.Rules.{recordsIn, recordsFor}
 use Rattle.sector.specs.Replacing.{placesIn}
@@ -49,57 +42,31 @@ of-sector s d (r ∷ rs) t = by (eqb (r .sector) s) refl t (λ u. of-sector s d 
 
 module _ (track : ℕ) (payloads codes : List ℕ) (id1 id2 : ℕ) (ht : track < 256) (h1 : id1 < 256) (h2 : id2 < 256)
     (bytes : (i : ℕ) → getD payloads i 0 < 256) where
-  abbrev code : ℕ → ℕ
-  code j = codeOf codes j
-
-  abbrev hdr : ℕ → List ℕ
-  hdr j = headerBytes (codeOf codes j) j track id1 id2
-
-  abbrev dat : ℕ → List ℕ
-  dat j = dataBytes (codeOf codes j) (payloadOf payloads j)
-
   abbrev count : ℕ
   count = sectorsIn (zoneOf track)
 
   abbrev built : List ℕ
-  built = joined (sectorsIn (zoneOf track)) (slotAt (zoneOf track) code hdr dat)
-
-  built-is : builtTrack track payloads codes id1 id2 ≡ built
-  unfolding builtTrack slot
-  built-is = refl
-
-  hz : zoneOf track < 4
-  hz = zone-lt track
-
-  few : (17 ≤ sectorsIn (zoneOf track)) × (sectorsIn (zoneOf track) ≤ 21)
-  few = sectors-in (zoneOf track) hz
-
-  lp : (j : ℕ) → length (payloadOf payloads j) ≡ 256
-  lp j = length-tab 256 (λ i. getD payloads (256 * j + i) 0)
-
-  bp : (j : ℕ) → Bytes (payloadOf payloads j)
-  bp j i = go (decLt i 256)
-    where
-      go : Dec (i < 256) → at (payloadOf payloads j) i < 256
-      go (yes l) = subst (λ (y : ℕ). y < 256) (sym (getD-tab 256 (λ i. getD payloads (256 * j + i) 0) i l)) (bytes (256 * j + i))
-      go (no l) =
-          subst (λ (y : ℕ). y < 256) (sym (List·getD-eq-default (payloadOf payloads j) 0 {n = i} (omega (arith, lp j)))) (omega arith)
-
-  tr : Track (bitAt built) (st (zoneOf track)) (ln (zoneOf track))
-      (λ k. headed (eqb (code (k % count)) 3) (eqb (code (k % count)) 2)) (λ k. not (eqb (code (k % count)) 3))
-      (λ k. nibble (at (hdr (k % count)))) (λ k. nibble (at (dat (k % count))))
-  tr = ring-track (zoneOf track) hz code hdr dat (λ j. omega arith) (λ j. data-long (code j) (payloadOf payloads j) (lp j) (bp j))
-      (λ j l. header-lt (code j) j track id1 id2 (omega (arith, few)) ht h1 h2)
-      (λ j. data-lt (code j) (payloadOf payloads j) (lp j) (bp j)) (λ j. refl) (λ j. mark-is (code j) (payloadOf payloads j) (lp j) (bp j))
+  built = slotsJoined track payloads codes id1 id2
 
   round : st (zoneOf track) count ≡ bits built
   round =
-      let p : 0 < count = omega (arith, few) in
+      let p : 0 < count = omega (arith, sectors-in (zoneOf track) (zone-lt track)) in
       let q : count ≡ 1 * count + 0 = omega arith in
       let d : count / count ≡ 1 = ap (λ (y : ℕ). y / count) q ∙ digits-div 1 p in
       let m : count % count ≡ 0 = ap (λ (y : ℕ). y % count) q ∙ digits-mod 1 p in
       ap₂ (λ (y z : ℕ). y * (8 * capacityIn (zoneOf track)) + 8 * slotStart (zoneOf track) z) d m
-      ∙ omega (arith, start-zero (zoneOf track), length-ring (zoneOf track) hz code hdr dat)
+      ∙ omega (
+        arith,
+        start-zero (zoneOf track),
+        length-ring (zoneOf track) (zone-lt track) (codeOf codes) (headerOf track payloads codes id1 id2)
+            (blockOf track payloads codes id1 id2),
+      )
+
+  -- the place of a good block of the track
+  abbrev Placed : ℕ → Type 0
+  Placed =
+      Lies (bitAt built) (st (zoneOf track)) (ln (zoneOf track)) _ _ _ _ (unrolled track payloads codes id1 id2 ht h1 h2 bytes)
+      track (bits built) count round
 
   module _ (sector : ℕ) where
     known : (d : ℕ) → In d (placesFor built track sector)
@@ -108,11 +75,12 @@ module _ (track : ℕ) (payloads codes : List ℕ) (id1 id2 : ℕ) (ht : track <
         subst (Any (λ r. (r .place ≡ d) × (r .sector ≡ sector))) (sym (whole built track)) (of-sector sector d (recordsIn built track) t)
 
     lies : (d : ℕ) → In d (placesFor built track sector)
-        → Lies (bitAt built) (st (zoneOf track)) (ln (zoneOf track)) _ _ _ _ tr track (bits built) count round d
+        → Placed d
     lies d t =
         let v = any-every _ (λ r. (r .place ≡ d) × (r .sector ≡ sector)) (recordsFrom (bitAt built) track (bits built) 0)
-        (each-lies (bitAt built) (st (zoneOf track)) (ln (zoneOf track)) _ _ _ _ tr track (bits built) count round 0) (known d t) in
-        subst (Lies (bitAt built) (st (zoneOf track)) (ln (zoneOf track)) _ _ _ _ tr track (bits built) count round) (v .2 .0) (v .1 .1)
+        (each-lies (bitAt built) (st (zoneOf track)) (ln (zoneOf track)) _ _ _ _
+        (unrolled track payloads codes id1 id2 ht h1 h2 bytes) track (bits built) count round 0) (known d t) in
+        subst Placed (v .2 .0) (v .1 .1)
 
     apart : Apart built track sector
     apart =
@@ -121,11 +89,12 @@ module _ (track : ℕ) (payloads codes : List ℕ) (id1 id2 : ℕ) (ht : track <
           others =
               subst (Each (λ v. (Own sector (v .found) → ⊥) → (d : ℕ) → In d (placesFor built track sector) → Misses (bits built) d v))
               (visits-whole built track)
-              (all-spared (bitAt built) (st (zoneOf track)) (ln (zoneOf track)) _ _ _ _ tr track (bits built) count round sector
+              (all-spared (bitAt built) (st (zoneOf track)) (ln (zoneOf track)) _ _ _ _
+              (unrolled track payloads codes id1 id2 ht h1 h2 bytes) track (bits built) count round sector
               (placesFor built track sector) lies (λ d t. inr (known d t)));
         }
 
 pub built-apart : BuiltApart
 built-apart track payloads codes id1 id2 sector ht h1 h2 bytes =
-    subst (λ (l : List ℕ). Apart l track sector) (sym (built-is track payloads codes id1 id2 ht h1 h2 bytes))
+    subst (λ (l : List ℕ). Apart l track sector) (sym (built-is track payloads codes id1 id2))
     (apart track payloads codes id1 id2 ht h1 h2 bytes sector)

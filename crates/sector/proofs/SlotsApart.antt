@@ -8,7 +8,7 @@ use Prim.Native.Nat.{ℕ, zero, suc, _+_, _-_, _≤_, _<_}
 use native.Mathlib.Omega.{arith}
 use native.Mathlib.Decide.{decLt, ℕ-discrete}
 use Rattle.gcr.specs.Places.{decodeAt}
-use Rattle.track_build.proofs.Unrolled.{Track, Place, at-header, at-block, Ones10, Found, ten-ones}
+use Rattle.track_build.proofs.Unrolled.{Track, Place, at-header, at-block, after as slots-apart, place-run, Ones10, Found, ten-ones}
 use Rattle.scan_sync.specs.declared.SyncEnd.{SyncEnd}
 use Rattle.scan_sync.specs.declared.SyncEnd.the-variants.{At, Nothing}
 use Rattle.scan.specs.declared.SectorRecord.{SectorRecord}
@@ -36,14 +36,8 @@ step-own s h (TrueHeader t i j (GoodData d p)) r e q =
     ap (λ (u : SectorRecord). u .sector) z ∙ q
 
 module _ (B : ℕ → ℕ) (st ln : ℕ → ℕ) (hh hd : ℕ → Bool) (hn dn : ℕ → ℕ → ℕ) (tr : Track B st ln hh hd hn dn) where
-  -- slots do not overlap
   after : (j k : ℕ) → j < k → st j + ln j ≤ st k
-  after j zero l = absurd (omega arith)
-  after j (suc k) l = go (ℕ-discrete j k) (λ m. after j k m)
-    where
-      go : Dec (j ≡ k) → (j < k → st j + ln j ≤ st k) → st j + ln j ≤ st (suc k)
-      go (yes e) r = subst (λ (y : ℕ). st y + ln y ≤ st (suc k)) (sym e) (omega (arith, tr .next k))
-      go (no e) r = omega (arith, r (omega arith), tr .next k)
+  after = slots-apart B st ln hh hd hn dn tr
 
   -- a sync end is the place of a slot's header or of its data block
   abbrev In-slot : ℕ → ℕ → Type 0
@@ -56,10 +50,6 @@ module _ (B : ℕ → ℕ) (st ln : ℕ → ℕ) (hh hd : ℕ → Bool) (hn dn :
   slot-high : (h k : ℕ) → In-slot h k → h ≤ st k + 232
   slot-high h k (inl e) = omega arith
   slot-high h k (inr e) = omega arith
-
-  place-run : (q k : ℕ) → Place q (st k) (hh k) (hd k) → (i : ℕ) → q ≤ i + 40 → i < q → B i ≡ 1
-  place-run q k (at-header t e) i l m = ap B (omega arith) ∙ tr .slot k .sync1 t (i - st k) (omega arith)
-  place-run q k (at-block t e) i l m = ap B (omega arith) ∙ tr .slot k .sync2 t (i - st k) (omega arith) (omega arith)
 
   real : (h : ℕ) → 10 ≤ h → SyncAt B h → (k : ℕ) × In-slot h k
   real h l sy = go (ten-ones B st ln hh hd hn dn tr (h - 10) ones)
@@ -76,7 +66,7 @@ module _ (B : ℕ → ℕ) (st ln : ℕ → ℕ) (hh hd : ℕ → Bool) (hn dn :
         where
           by : Dec (h ≡ q) → (k : ℕ) × In-slot h k
           by (yes e) = (k, here q k pl e)
-          by (no n) = absurd (omega (arith, place-run q k pl h (omega arith) (omega arith), sy .zer))
+          by (no n) = absurd (omega (arith, place-run B st ln hh hd hn dn tr q k pl h (omega arith) (omega arith), sy .zer))
 
   -- the data search of a header finds its own slot's block, that of a data block nothing
   search-in : (h k d : ℕ) → In-slot h k → syncEnd B (h + 80) 768 ≡ At d → (h ≡ st k + 40) × (d ≡ st k + 232)

@@ -12,7 +12,7 @@ use Rattle.gcr.specs.Symbols.{nibbleOf}
 use Rattle.gcr.specs.Places.{symbolAt}
 use Rattle.gcr.proofs.SymbolFacts.{zero-sym}
 use Rattle.gcr.proofs.DecodeLaws.{nibAt, byteAt}
-use Rattle.track_build.proofs.Unrolled.{Track, at-header, at-block}
+use Rattle.track_build.proofs.Unrolled.{Track, at-header, at-block, after, place-run}
 use Rattle.track_build.proofs.Meaning.{pairAt, Meaning}
 use Rattle.scan_sync.specs.declared.SyncEnd.the-variants.{At}
 use Rattle.scan_sync.specs.Sync.{syncEnd}
@@ -24,7 +24,7 @@ use Rattle.scan.proofs.StepLaws.{skip, good, stepOf, Led, visit-skip, visit-yes
 use Rattle.scan.proofs.ScanLaws.{scan, found-sync, Any, scan-reach}
 use Rattle.theorem_dropout.proofs.Cut.{dropped}
 use Rattle.theorem_dropout.proofs.TwoSymbols.{sym-same}
-use Rattle.theorem_dropout.proofs.Sound.{Whole, place-run, place-0, after, not-zero, mark-8, header-own, OwnAt, own-at}
+use Rattle.theorem_dropout.proofs.Sound.{Whole, place-0, not-zero, mark-8, header-own, OwnAt, own-at}
 
 module _ (B : ℕ → ℕ) (st ln : ℕ → ℕ) (hh hd : ℕ → Bool) (hn dn : ℕ → ℕ → ℕ) (tr : Track B st ln hh hd hn dn) where
   module _ (N a n : ℕ) (wide : 9000 ≤ N) where

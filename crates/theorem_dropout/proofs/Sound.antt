@@ -15,7 +15,7 @@ use Rattle.gcr.specs.Symbols.{nibbleOf}
 use Rattle.gcr.specs.Places.{symbolAt}
 use Rattle.gcr.proofs.SymbolFacts.{Bits, sub0, noTurn, no-turn, turn-7-8, turn-0-8, turn-8-7, turn-0-7}
 use Rattle.gcr.proofs.DecodeLaws.{nibAt, byteAt, nib-shift, nib-first, byte-shift}
-use Rattle.track_build.proofs.Unrolled.{Track, Place, at-header, at-block, ten-ones, Found}
+use Rattle.track_build.proofs.Unrolled.{Track, Place, at-header, at-block, after, place-run, ten-ones, Found}
 use Rattle.track_build.proofs.Meaning.{pairAt, Meaning}
 use Rattle.scan_visit.specs.Visit.{visit}
 use Rattle.scan.specs.declared.SectorRecord.{SectorRecord}
@@ -32,11 +32,7 @@ abbrev pub Whole : ℕ → Type 0
 Whole code = (code ≢ 2) × (code ≢ 3) × (code ≢ 4) × (code ≢ 5) × (code ≢ 9)
 
 module _ (B : ℕ → ℕ) (st ln : ℕ → ℕ) (hh hd : ℕ → Bool) (hn dn : ℕ → ℕ → ℕ) (tr : Track B st ln hh hd hn dn) where
-  -- the 40 places before a block
-  pub place-run : (q k : ℕ) → Place q (st k) (hh k) (hd k) → (i : ℕ) → q ≤ i + 40 → i < q → B i ≡ 1
-  place-run q k (at-header t e) i l m = ap B (omega arith) ∙ tr .slot k .sync1 t (i - st k) (omega arith)
-  place-run q k (at-block t e) i l m = ap B (omega arith) ∙ tr .slot k .sync2 t (i - st k) (omega arith) (omega arith)
-
+  -- the first two nibbles of a block
   pub place-0 : (q k : ℕ) → Place q (st k) (hh k) (hd k) → nibbleOf (symbolAt B q) ≡ 0
   place-0 q k (at-header t e) = ap (λ (y : ℕ). nibbleOf (symbolAt B y)) (omega arith) ∙ tr .slot k .header t 0 (omega arith)
       ∙ tr .slot k .hn-0
@@ -51,15 +47,6 @@ module _ (B : ℕ → ℕ) (st ln : ℕ → ℕ) (hh hd : ℕ → Bool) (hn dn :
       go : (dn k 1 ≡ 7) ⊎ (dn k 1 ≡ 0) → Second (nibbleOf (symbolAt B (q + 5)))
       go (inl f) = inl (ap (λ (y : ℕ). nibbleOf (symbolAt B y)) (omega arith) ∙ tr .slot k .block t 1 (omega arith) ∙ f)
       go (inr f) = inr (inr (ap (λ (y : ℕ). nibbleOf (symbolAt B y)) (omega arith) ∙ tr .slot k .block t 1 (omega arith) ∙ f))
-
-  -- slots do not overlap
-  pub after : (j k : ℕ) → j < k → st j + ln j ≤ st k
-  after j zero l = absurd (omega arith)
-  after j (suc k) l = go (ℕ-discrete j k) (λ m. after j k m)
-    where
-      go : Dec (j ≡ k) → (j < k → st j + ln j ≤ st k) → st j + ln j ≤ st (suc k)
-      go (yes e) r = subst (λ (y : ℕ). st y + ln y ≤ st (suc k)) (sym e) (omega (arith, tr .next k))
-      go (no e) r = omega (arith, r (omega arith), tr .next k)
 
   module _ (N a n : ℕ) (wide : 9000 ≤ N) where
     abbrev D : ℕ → ℕ
@@ -87,7 +74,7 @@ module _ (B : ℕ → ℕ) (st ln : ℕ → ℕ) (hh hd : ℕ → Bool) (hn dn :
                 (cut-lo N a n B (h - 1) (omega arith) up) (cut-hi N a n B (h - 1)
                 (omega arith) up) h q (cut-at N a n B (h - 1) (omega arith) up)
                 (omega arith) (omega arith) (not-zero (h - 1) up .0) (sy .zer)
-                (λ i i1 i2. place-run q k pl i (omega arith) i2) (omega arith)
+                (λ i i1 i2. place-run B st ln hh hd hn dn tr q k pl i (omega arith) i2) (omega arith)
                 (place-0 q k pl) (place-1 q k pl) d0) d1)
               where
                 up : D (h - 1) ≢ 0
@@ -271,8 +258,8 @@ module _ (B : ℕ → ℕ) (st ln : ℕ → ℕ) (hh hd : ℕ → Bool) (hn dn :
               )
             where
               same : Dec (k < k′) → Dec (k′ < k) → k′ ≡ k
-              same (yes m) x = absurd (omega (arith, after k k′ m, tr .slot k .long))
-              same (no m) (yes m′) = absurd (omega (arith, after k′ k m′, tr .slot k′ .long))
+              same (yes m) x = absurd (omega (arith, after B st ln hh hd hn dn tr k k′ m, tr .slot k .long))
+              same (no m) (yes m′) = absurd (omega (arith, after B st ln hh hd hn dn tr k′ k m′, tr .slot k′ .long))
               same (no m) (no m′) = omega arith
 
       -- a record of slot k, with its payload

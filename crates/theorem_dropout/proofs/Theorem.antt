@@ -5,17 +5,17 @@
 use mathlib.Core.Path.{_≡_, refl, sym, ap, ap₂, _∙_, subst, fun-ext}
 use mathlib.Core.Logic.{_≢_, _⊎_, inl, inr}
 use mathlib.Core.Bool.{Bool, true, false, not, true≢false}
-use mathlib.Core.List.{List, [], _∷_}
+use mathlib.Core.List.{List}
 use Prim.Native.Nat.{ℕ, zero, suc, _+_, _-_, _*_, _/_, _%_, _≤_, _<_}
 use native.Mathlib.Omega.{arith}
-use native.Mathlib.Decide.{decLt, decLe}
+use native.Mathlib.Decide.{decLe}
 use native.Mathlib.Nat.{mod-lt, mod-eq-of-lt, div-eq-of-lt}
 use lib.Arith.{digits-div, digits-mod}
 use lib.Dec.{T, eqb}
 use lib.ListN.{length, getD}
 use Rattle.base.specs.Choice.{pick}
 use Rattle.base.specs.Lists.{tab, joined}
-use Rattle.base.proofs.Lists.{length-tab, getD-tab, is-tab}
+use Rattle.base.proofs.Lists.{is-tab}
 use Rattle.base.specs.Limits.{longestRing}
 use Rattle.base.proofs.Tests.{eqb-no}
 use Rattle.geometry.specs.Zones.{zoneOf, sectorsIn, capacityIn, sectorsOf, capacityOf, slotStart}
@@ -25,11 +25,13 @@ use Rattle.ring.specs.Bit.{bits, bitAt}
 use Rattle.ring.specs.Stretch.{inStretch, ForcedToZero}
 use Rattle.ring.proofs.StretchLaws.{forced}
 use Rattle.track_build.specs.Blocks.{headerBytes, dataBytes, spoils}
-use Rattle.track_build.specs.Slots.{codeOf, payloadOf, slot, builtTrack}
+use Rattle.track_build.specs.Slots.{codeOf, payloadOf, builtTrack}
 use Rattle.track_build.proofs.Unrolled.{Track}
 use Rattle.track_build.proofs.SlotBits.{headed}
-use Rattle.track_build.proofs.TrackBits.{slotAt, st, ln, length-ring, slot-fits, ring-track}
-use Rattle.track_build.proofs.Meaning.{Meaning, meaning, header-lt, data-long, data-lt, mark-is}
+use Rattle.track_build.proofs.TrackBits.{slotAt, st, ln, slot-fits}
+use Rattle.track_build.proofs.Meaning.{Meaning, meaning}
+use Rattle.track_build.proofs.Picture.{built-is, payload-long, payload-byte, unrolled}
+use Rattle.track_build.proofs.Stored.{length-built}
 use Rattle.scan.specs.Scan.{recordsOf, visitsOf}
 use Rattle.scan.specs.declared.SectorRecord.{SectorRecord}
 use Rattle.track_read.specs.Reading.{Given, NotGiven, firstOf, readSector}
@@ -63,10 +65,6 @@ module _ (track id1 id2 : ℕ) (payloads codes : List ℕ) (ht : track < 256) (h
   abbrev built : List ℕ
   built = joined (sectorsIn (zoneOf track)) (slotAt (zoneOf track) code hdr dat)
 
-  built-is : builtTrack track payloads codes id1 id2 ≡ built
-  unfolding builtTrack slot
-  built-is = refl
-
   hz : zoneOf track < 4
   hz = zone-lt track
 
@@ -77,19 +75,10 @@ module _ (track id1 id2 : ℕ) (payloads codes : List ℕ) (ht : track < 256) (h
   pos = omega (arith, few)
 
   lp : (j : ℕ) → length (payloadOf payloads j) ≡ 256
-  lp j = length-tab 256 (λ i. getD payloads (256 * j + i) 0)
+  lp = payload-long payloads
 
   bp : (j : ℕ) → Bytes (payloadOf payloads j)
-  bp j i = go (decLt i 256)
-    where
-      go : Dec (i < 256) → at (payloadOf payloads j) i < 256
-      go (yes l) = subst (λ (y : ℕ). y < 256) (sym (getD-tab 256 (λ i. getD payloads (256 * j + i) 0) i l)) (bytes (256 * j + i))
-      go (no l) = subst (λ (y : ℕ). y < 256) (sym (past (payloadOf payloads j) i (omega (arith, lp j)))) (omega arith)
-        where
-          past : (l : List ℕ) (i : ℕ) → length l ≤ i → getD l i 0 ≡ 0
-          past [] i h = refl
-          past (x ∷ xs) zero h = absurd (omega arith)
-          past (x ∷ xs) (suc i) h = past xs i (omega arith)
+  bp j = payload-byte payloads j bytes
 
   own-payload : (j : ℕ) → tab 256 (at (payloadOf payloads j)) ≡ payloadOf payloads j
   own-payload j = sym (is-tab (payloadOf payloads j) 256 (at (payloadOf payloads j)) (lp j) (λ k h. refl))
@@ -108,15 +97,10 @@ module _ (track id1 id2 : ℕ) (payloads codes : List ℕ) (ht : track < 256) (h
   dN k = nibble (at (dat (k % count)))
 
   tr : Track (bitAt built) (st z) (ln z) hH hD hN dN
-  tr = ring-track z hz code hdr dat (λ j. omega arith) (λ j. data-long (code j) (payloadOf payloads j) (lp j) (bp j))
-      (λ j l. header-lt (code j) j track id1 id2 (omega (arith, few)) ht h1 h2)
-      (λ j. data-lt (code j) (payloadOf payloads j) (lp j) (bp j)) (λ j. refl) (λ j. mark-is (code j) (payloadOf payloads j) (lp j) (bp j))
+  tr = unrolled track payloads codes id1 id2 ht h1 h2 bytes
 
   mean : Meaning (sectorsOf track) track (λ k. code (k % count)) (λ k. k % count) (λ k. at (payloadOf payloads (k % count))) hH hD hN dN
   mean = meaning count (omega (arith, few)) pos code (payloadOf payloads) track id1 id2 ht h1 h2 lp bp
-
-  len : length built ≡ capacityIn (zoneOf track)
-  len = length-ring z hz code hdr dat
 
   -- a sector's slot lies in the ring
   in-ring : (j : ℕ) → j < count → 8 * slotStart z j + 2832 ≤ N
@@ -128,9 +112,6 @@ module _ (track id1 id2 : ℕ) (payloads codes : List ℕ) (ht : track < 256) (h
 
   wide : 9000 ≤ N
   wide = omega (arith, fills z hz, start-ge count, few)
-
-  pub length-track : length (builtTrack track payloads codes id1 id2) ≡ capacityOf track
-  length-track = ap length built-is ∙ len
 
   -- a record has its own sector's payload, and that sector's code spoils nothing
   abbrev pub OwnRecord : SectorRecord → Type 0
@@ -213,12 +194,13 @@ module _ (track id1 id2 : ℕ) (payloads codes : List ℕ) (ht : track < 256) (h
     -- ---- any ring that is the built one with that stretch forced to zero
     module _ (r : List ℕ) (s : ℕ) (hit : ForcedToZero (builtTrack track payloads codes id1 id2) r a n) where
       long : bits r ≡ N
-      long = ap (λ (y : ℕ). 8 * y) (hit .same-length ∙ length-track)
+      long = ap (λ (y : ℕ). 8 * y) (hit .same-length ∙ length-built track payloads codes id1 id2)
 
       same : bitAt r ≡ D
       unfolding dropped
       same = fun-ext (λ i. hit .every-bit i ∙ ap₂ (λ (m : ℕ) (l : List ℕ). pick (inStretch m a n i) 0 (bitAt l i)) (ap (λ (y :
-          ℕ). 8 * y) length-track) built-is)
+          ℕ). 8 * y) (length-built track payloads codes id1 id2))
+          (built-is track payloads codes id1 id2))
 
       records-are : recordsOf (visitsOf r track s) ≡ scan D track (s % N + N) (s % N + N - s % N) (s % N)
       records-are = ap₂ (λ (x : ℕ → ℕ) (m : ℕ). scan x track (s % m + m) (s % m + m - s % m) (s % m)) same long
@@ -253,8 +235,7 @@ module _ (d : Dropout) (ok : OfBytes d) where
   found = recordsOf (visitsOf (damaged d) (d .track) (d .start))
 
   as-long : length (builtTrack (d .track) (d .payloads) (d .codes) (d .id1) (d .id2)) ≡ capacityOf (d .track)
-  as-long =
-      length-track (d .track) (d .id1) (d .id2) (d .payloads) (d .codes) (ok .track-byte) (ok .id1-byte) (ok .id2-byte) (ok .payload-bytes)
+  as-long = length-built (d .track) (d .payloads) (d .codes) (d .id1) (d .id2)
 
   as-wide : 9000 ≤ 8 * capacityOf (d .track)
   as-wide = wide (d .track) (d .id1) (d .id2) (d .payloads) (d .codes) (ok .track-byte) (ok .id1-byte) (ok .id2-byte) (ok .payload-bytes)

@@ -1,5 +1,7 @@
 -- The layout of a built track, over a circle that is unrolled: slot after slot, revolution after revolution.
 --     Slot, Track     what stands at each offset of a slot, and the slots one after the other
+--     after           slots do not overlap
+--     place-run       40 ones stand before a block
 --     ten-ones        ten ones in a row end in a sync run
 use mathlib.Core.Path.{_≡_, refl, sym, ap, ap₂, _∙_, subst}
 use mathlib.Core.Logic.{_≢_, _⊎_, inl, inr}
@@ -72,6 +74,20 @@ module _ (B : ℕ → ℕ) (st ln : ℕ → ℕ) (hh hd : ℕ → Bool) (hn dn :
           more : Dec (suc i < st k + ln k) → (k′ : ℕ) × (st k′ ≤ suc i) × (suc i < st k′ + ln k′)
           more (yes m) = (k, omega arith, m)
           more (no m) = (suc k, omega (arith, tr .next k), omega (arith, tr .next k, tr .slot (suc k) .long))
+
+  -- slots do not overlap
+  pub after : (j k : ℕ) → j < k → st j + ln j ≤ st k
+  after j zero l = absurd (omega arith)
+  after j (suc k) l = go (ℕ-discrete j k) (λ m. after j k m)
+    where
+      go : Dec (j ≡ k) → (j < k → st j + ln j ≤ st k) → st j + ln j ≤ st (suc k)
+      go (yes e) r = subst (λ (y : ℕ). st y + ln y ≤ st (suc k)) (sym e) (omega (arith, tr .next k))
+      go (no e) r = omega (arith, r (omega arith), tr .next k)
+
+  -- the 40 places before a block
+  pub place-run : (q k : ℕ) → Place q (st k) (hh k) (hd k) → (i : ℕ) → q ≤ i + 40 → i < q → B i ≡ 1
+  place-run q k (at-header t e) i l m = ap B (omega arith) ∙ tr .slot k .sync1 t (i - st k) (omega arith)
+  place-run q k (at-block t e) i l m = ap B (omega arith) ∙ tr .slot k .sync2 t (i - st k) (omega arith) (omega arith)
 
   abbrev pub Found : ℕ → Type 0
   Found p = (k : ℕ) × (q : ℕ) × Place q (st k) (hh k) (hd k) × (p + 10 ≤ q) × (q ≤ p + 41)
