@@ -41,8 +41,8 @@ unfolding refusedLine
 refused-put out a b n i j p q = put-more out a b (ascii "refused " ++ decimal n) (ascii "\n") 0 i j p q
 
 module _ (out a b c d e : List ℕ) (at sector sum i j k l m : ℕ) where
-  pub sector-put : Put out at (ascii "sector ") a i → Put a i (decimalOf 2 sector) b j → Put b j (ascii " sum ") c k → Put c k (hexOf 2 sum) d l
-      → Put d l (ascii "\n") e m → Put out at (sectorLine sector sum) e m
+  pub sector-put : Put out at (ascii "sector ") a i → Put a i (decimalOf 2 sector) b j → Put b j (ascii " sum ") c k
+      → Put c k (hexOf 2 sum) d l → Put d l (ascii "\n") e m → Put out at (sectorLine sector sum) e m
   unfolding sectorLine
   sector-put p q r s t =
       put-more out a e (ascii "sector ") (decimalOf 2 sector ++ (ascii " sum " ++ (hexOf 2 sum ++ ascii "\n"))) at i m p

@@ -43,7 +43,8 @@ module _ {ring : List ℕ} {track start bit : ℕ} {done : List SectorRecord} (p
       }
 
   -- there are at most `mostRecords`
-  pub before-most : length ring ≤ longestRing → (r : SectorRecord) → NextIs (bitAt ring) track (endOf ring start) bit r → length done < mostRecords
+  pub before-most : length ring ≤ longestRing → (r : SectorRecord) → NextIs (bitAt ring) track (endOf ring start) bit r
+      → length done < mostRecords
   before-most h r i = omega (arith, few-left ring track start bit done h (p .rest), ap length (i .left))
 
   -- none is left

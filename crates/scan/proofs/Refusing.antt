@@ -27,7 +27,8 @@ short a m b n (inl h) = ap (λ (s : Bool). s && leb b n) (leb-no a m h)
 short a m b n (inr (h, k)) = ap₂ (λ (s t : Bool). s && t) (leb-yes a m h) (leb-no b n k)
 
 -- ---- the ring: refused by its own number, or taken, since its records are not too many
-pub few-enough : (ring : List ℕ) (track start : ℕ) → length ring ≤ longestRing → ltb mostRecords (length (records ring track start)) ≡ false
+pub few-enough : (ring : List ℕ) (track start : ℕ) → length ring ≤ longestRing
+    → ltb mostRecords (length (records ring track start)) ≡ false
 few-enough ring track start h = ltb-no mostRecords (length (records ring track start)) (few-records ring track start h)
 
 module _ (enough : Bool) (e : enough ≡ true) (ring : List ℕ) (track start : ℕ) where
@@ -60,7 +61,8 @@ module _ (ring : List ℕ) (track start : ℕ) (rows payloads : List ℕ) where
         let e = no-ring (roomToScan rows payloads) roomy ring track start number n z in
         (sym (unless-some _ number _ _ e z), sym (unless-some _ number _ _ e z), sym (unless-some _ number _ _ e z))
 
-    pub scan-goes : IsRing ring → (r : Scanned) (rs ps : List ℕ) → Listed (records ring track start) rows payloads rs ps r → ScanOut r rs ps
+    pub scan-goes : IsRing ring → (r : Scanned) (rs ps : List ℕ) → Listed (records ring track start) rows payloads rs ps r
+        → ScanOut r rs ps
     unfolding scanned rowsAfter payloadsAfter
     scan-goes l r rs ps o =
         let e = is-taken (roomToScan rows payloads) roomy ring track start l in

@@ -27,7 +27,8 @@ of-scan-in row n answer count e h = rw (e, ltb-yes n count h)
 pub of-scan-past : (row : Row) (n : ℕ) (answer : Scanned) (count : ℕ) → answer ≡ Records count → count ≤ n → noRow ≡ ofScan row n answer
 of-scan-past row n answer count e h = rw (e, ltb-no n count h)
 
-pub of-scan-refused : (row : Row) (n : ℕ) (answer : Scanned) (number : ℕ) → answer ≡ Refused number → refusedRow number ≡ ofScan row n answer
+pub of-scan-refused : (row : Row) (n : ℕ) (answer : Scanned) (number : ℕ) → answer ≡ Refused number
+    → refusedRow number ≡ ofScan row n answer
 of-scan-refused row n answer number e = rw e
 
 -- ---- a row of what was laid

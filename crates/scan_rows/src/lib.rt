@@ -45,7 +45,7 @@ fn list_rows(ring: &[u8], track: u8, start_bit: usize, rows: &mut [SectorRecord]
     while next.found {
         store_row(rows, n, next.row);
         n += 1;
-        next = scan::next_record(ring, track, end, next.row.place + 2600);
+        next = scan::next_record(ring, track, end, next.row.place + geometry::BLOCK_BITS);
     }
     n
 }

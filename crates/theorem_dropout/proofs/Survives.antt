@@ -1,6 +1,6 @@
 -- Demand 3 of the code: its three calls put together, and the ways out.
---     sum-wrong, ring-short, out-short, statuses-short    refused, all stays as it was lent
---     three-calls                                         a track built, forced to zero and read: what the definitions say, and demand 3 of it
+--     sum-wrong, .., statuses-short    refused, all stays as it was lent
+--     three-calls                      a track built, forced to zero and read: what the definitions say, and demand 3 of it
 use Prim.Native.Nat.{ℕ, suc, _*_, _%_, _≤_, _<_}
 use mathlib.Core.Path.{_≡_, refl, sym, ap, ap₂, _∙_, subst}
 use mathlib.Core.Logic.{_≢_}

@@ -3,8 +3,8 @@
 --     demand-3              the statement of specs/
 --     never-refused         that ring is refused by no reader
 use mathlib.Core.Path.{_≡_, refl, sym, ap, ap₂, _∙_, subst, fun-ext}
-use mathlib.Core.Logic.{_⊎_, inl, inr}
-use mathlib.Core.Bool.{Bool, not}
+use mathlib.Core.Logic.{_≢_, _⊎_, inl, inr}
+use mathlib.Core.Bool.{Bool, true, false, not, true≢false}
 use mathlib.Core.List.{List}
 use Prim.Native.Nat.{ℕ, zero, suc, _+_, _-_, _*_, _/_, _%_, _≤_, _<_}
 use native.Mathlib.Omega.{arith}
@@ -17,13 +17,14 @@ use Rattle.base.specs.Choice.{pick}
 use Rattle.base.specs.Lists.{tab, joined}
 use Rattle.base.proofs.Lists.{is-tab}
 use Rattle.base.specs.Limits.{longestRing}
+use Rattle.base.proofs.Tests.{eqb-no}
 use Rattle.geometry.specs.Zones.{zoneOf, sectorsIn, capacityIn, sectorsOf, capacityOf, slotStart}
 use Rattle.geometry.proofs.ZoneLaws.{zone-lt, capacity-le, sectors-in, gap-ge, fills, start-next}
 use Rattle.gcr.proofs.EncodeLaws.{at, nibble, Bytes}
 use Rattle.ring.specs.Bit.{bits, bitAt}
 use Rattle.ring.specs.Stretch.{inStretch, ForcedToZero}
 use Rattle.ring.proofs.StretchLaws.{forced}
-use Rattle.track_build.specs.Blocks.{headerBytes, dataBytes}
+use Rattle.track_build.specs.Blocks.{headerBytes, dataBytes, spoils}
 use Rattle.track_build.specs.Slots.{codeOf, payloadOf, builtTrack}
 use Rattle.track_build.proofs.Unrolled.{Track}
 use Rattle.track_build.proofs.SlotBits.{headed}
@@ -36,7 +37,7 @@ use Rattle.scan.specs.declared.SectorRecord.{SectorRecord}
 use Rattle.track_read.specs.Reading.{Given, NotGiven, firstOf, readSector}
 use Rattle.scan.proofs.ScanLaws.{scan, Every, Any, every-map, few-records}
 use Rattle.track_read.proofs.ReadingLaws.{GivenBy, first-cases, first-found}
-use Rattle.theorem_dropout.specs.Demand3.{Dropout, OfBytes, damaged, own, Spoils, Statement, NeverRefused}
+use Rattle.theorem_dropout.specs.Demand3.{Dropout, OfBytes, damaged, own, isSpoilt, Statement, NeverRefused}
 use Rattle.theorem_dropout.proofs.Cut.{dropped, outside, around}
 use Rattle.theorem_dropout.proofs.Sound.{Whole, sound}
 use Rattle.theorem_dropout.proofs.Complete.{complete}
@@ -216,16 +217,15 @@ module _ (track id1 id2 : ℕ) (payloads codes : List ℕ) (ht : track < 256) (h
 
 -- ---- the statement
 -- a code that does not spoil is none of the five, and one of the five is not whole
-not-spoilt : (c : ℕ) → ¬ (Spoils c) → Whole c
-not-spoilt c n =
-    (λ e. n (inl e), λ e. n (inr (inl e)), λ e. n (inr (inr (inl e))), λ e. n (inr (inr (inr (inl e)))), λ e. n (inr (inr (inr (inr e)))))
+is-other : (c k : ℕ) → spoils c ≡ false → spoils k ≡ true → c ≢ k
+is-other c k n y e = absurd (true≢false (sym y ∙ ap spoils (sym e) ∙ n))
 
-not-whole : (c : ℕ) → Spoils c → Whole c → ⊥
-not-whole c (inl e) w = w .0 e
-not-whole c (inr (inl e)) w = w .1 e
-not-whole c (inr (inr (inl e))) w = w .2 e
-not-whole c (inr (inr (inr (inl e)))) w = w .3 e
-not-whole c (inr (inr (inr (inr e)))) w = w .4 e
+not-spoilt : (c : ℕ) → spoils c ≡ false → Whole c
+not-spoilt c n = (is-other c 2 n refl, is-other c 3 n refl, is-other c 4 n refl, is-other c 5 n refl, is-other c 9 n refl)
+
+not-whole : (c : ℕ) → spoils c ≡ true → Whole c → ⊥
+not-whole c s w =
+    true≢false (sym s ∙ rw (eqb-no c 2 (w .0), eqb-no c 3 (w .1), eqb-no c 4 (w .2), eqb-no c 5 (w .3), eqb-no c 9 (w .4)))
 
 module _ (d : Dropout) (ok : OfBytes d) where
   abbrev P : SectorRecord → Type 0
@@ -256,7 +256,7 @@ module _ (d : Dropout) (ok : OfBytes d) where
   sort j (inl e) = inr e
   sort j (inr h) = inl (given-own j h)
 
-  none : (j : ℕ) → Spoils (codeOf (d .codes) j) → (firstOf j found ≡ NotGiven) ⊎ GivenBy P j (firstOf j found) → firstOf j found ≡ NotGiven
+  none : (j : ℕ) → isSpoilt d j ≡ true → (firstOf j found ≡ NotGiven) ⊎ GivenBy P j (firstOf j found) → firstOf j found ≡ NotGiven
   none j s (inl e) = e
   none j s (inr (r, p, e, q)) =
       absurd (not-whole (codeOf (d .codes) j) s (subst (λ (y : ℕ). Whole (codeOf (d .codes) y)) e (p .1)))

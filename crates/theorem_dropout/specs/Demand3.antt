@@ -3,12 +3,14 @@
 use Prim.Native.Nat.{ℕ, _+_, _*_, _≤_, _<_}
 use mathlib.Core.Path.{_≡_}
 use mathlib.Core.Logic.{_⊎_}
+use mathlib.Core.Bool.{Bool, true, false}
 use mathlib.Core.List.{List}
 use lib.Dec.{T}
 use lib.ListN.{length, getD}
 use Rattle.geometry.specs.Zones.{zoneOf, sectorsOf, capacityOf, slotStart}
 use Rattle.ring.specs.Bit.{IsRing}
 use Rattle.ring.specs.Stretch.{inStretch, forceToZero}
+use Rattle.track_build.specs.Blocks.{spoils}
 use Rattle.track_build.specs.Slots.{codeOf, payloadOf, builtTrack}
 use Rattle.scan.specs.Scan.{records, mostRecords}
 use Rattle.track_read.specs.Reading.{Handed, Given, NotGiven, readSector}
@@ -39,9 +41,9 @@ damaged d = forceToZero (builtTrack (d .track) (d .payloads) (d .codes) (d .id1)
 abbrev pub own : Dropout → ℕ → Handed
 own d j = Given (payloadOf (d .payloads) j)
 
--- a code that spoils its sector
-abbrev pub Spoils : ℕ → Type 0
-Spoils code = (code ≡ 2) ⊎ (code ≡ 3) ⊎ (code ≡ 4) ⊎ (code ≡ 5) ⊎ (code ≡ 9)
+-- whether sector j has a code that spoils it
+abbrev pub isSpoilt : Dropout → ℕ → Bool
+isSpoilt d j = spoils (codeOf (d .codes) j)
 
 -- sector j is untouched: the stretch has none of the 2,832 bits of its sync, header, header gap, sync and data block
 abbrev pub Untouched : Dropout → ℕ → Type 0
@@ -51,9 +53,9 @@ Untouched d j =
 
 -- demand 3 of what is handed out for sector j; `hit` is said of every sector, touched or not
 pub record Demand3 (d : Dropout) (j : ℕ) (r : Handed) : Type 0 where
-  pub escaped : ¬ (Spoils (codeOf (d .codes) j)) → Untouched d j → r ≡ own d j
+  pub escaped : isSpoilt d j ≡ false → Untouched d j → r ≡ own d j
   pub hit : (r ≡ own d j) ⊎ (r ≡ NotGiven)
-  pub spoiled : Spoils (codeOf (d .codes) j) → r ≡ NotGiven
+  pub spoiled : isSpoilt d j ≡ true → r ≡ NotGiven
 
 -- the statement: every sector of every track, as it is read off the damaged ring
 abbrev pub Statement : Type 0

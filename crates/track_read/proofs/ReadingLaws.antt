@@ -18,7 +18,8 @@ use Rattle.base.proofs.Tests.{eqb-yes, eq-of}
 use Rattle.geometry.specs.Zones.{sectorsOf}
 use Rattle.ring.specs.Bit.{bits, bitAt}
 use Rattle.scan.specs.declared.SectorRecord.{SectorRecord}
-use Rattle.track_read.specs.Reading.{Handed, Given, NotGiven, firstOf, readSector, bytesOf, statusOf, readPayloads, readStatuses, standing}
+use Rattle.track_read.specs.Reading.{Handed, Given, NotGiven, firstOf, readSector}
+use Rattle.track_read.specs.Reading.{bytesOf, statusOf, readPayloads, readStatuses, standing}
 use Rattle.scan.specs.Scan.{records}
 use Rattle.scan.proofs.ScanLaws.{Every, Any}
 use Rattle.scan.proofs.EachRecord.{each-next}

@@ -63,7 +63,7 @@ fn read_records(
         }
         let row = next.row;
         n += keep_first(payloads, statuses, row);
-        scan_bit = row.place + 2600;
+        scan_bit = row.place + geometry::BLOCK_BITS;
     }
 }
 

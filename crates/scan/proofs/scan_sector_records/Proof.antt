@@ -42,7 +42,8 @@ returns-4 : tie.Need-returns-4
 returns-4 c =
     let y = c .before .before .before .before .before .before .before in
     let n = y .before in
-    scan-goes _ _ _ _ _ (n .before .before .if1 .left) (n .before .if2 .left) (is-ring _ (sym (n .refusal-of .ensures) ∙ y .if3 .left)) _ _ _
+    scan-goes _ _ _ _ _ (n .before .before .if1 .left) (n .before .if2 .left)
+    (is-ring _ (sym (n .refusal-of .ensures) ∙ y .if3 .left)) _ _ _
     (c .before .before .before .before .list-records .ensures)
 
 pub scan-sector-records-spec : {M : Type 1} → statement M

@@ -1,6 +1,5 @@
--- `rows::list_rows` meets its contract: a walk of its code, by hand, with a loop and two calls in the turn. The invariant: the records
--- `done` are
--- laid into the rows, and `next` is what `next_record` answers for those that are left (`Laying`).
+-- `list_rows` meets its contract: a walk of its code, by hand, with a loop and two calls in the turn. The invariant: the records
+-- `done` are laid into the rows, and `next` is what `next_record` answers for those that are left (`Laying`).
 -- The ring is passed to `next_record` as a copy; the rows are lent again to `store_row` for a lifetime made for the call (`Again`).
 use mathlib.Core.Path.{_≡_, refl, sym, ap, subst, _∙_}
 use mathlib.Core.Logic.{⊎-elim}

@@ -1,4 +1,4 @@
--- `rowread::nth_record` meets its contract: a walk of its code, by hand. The rows are a local array, laid out as its elements; they are
+-- `nth_record` meets its contract: a walk of its code, by hand. The rows are a local array, laid out as its elements; they are
 -- lent to `scan_into_rows` for a lifetime of the call, come back, are lent to `read_row` as they are, come back, and are the array's room
 -- again.
 -- The walk is over any list `start` of 195 records of zeros, so that antt never unfolds it.
@@ -69,7 +69,8 @@ use Rattle.scan_rows.proofs.LocalRows.{lay, unlay}
 use Rattle.scan_rows.proofs.NthLaws.{nth}
 use Rattle.scan_rows.proofs.NthCalls.{S, told, made, Answer, made-answer, ZeroRecord, ScanInto, ReadRow, OfScan}
 use Rattle.scan_rows.proofs.NthCalls.{to-zero, goes-zero}
-use Rattle.scan_rows.proofs.NthCalls.{of-zero, Lent, scan-arg, to-scan, goes-scan, Into, Shared, read-arg, to-read, goes-read, of-read}
+use Rattle.scan_rows.proofs.NthCalls.{of-zero, Lent, scan-arg, to-scan, goes-scan, Into}
+use Rattle.scan_rows.proofs.NthCalls.{Shared, read-arg, to-read, goes-read, of-read}
 use Rattle.scan_rows.proofs.NthCalls.{of-arg, to-of, goes-of, of-of}
 use Rattle.scan.proofs.zero_record as zero-record
 use Rattle.scan.proofs.zero_record.Symbol as zero-record-def
@@ -81,13 +82,13 @@ use Rattle.scan_rows.proofs.scan_into_rows.Symbol.{name as #rows·scan-
 use Rattle.scan_rows.proofs.scan_into_rows.Met as scan-into-rows-thm
 use Rattle.scan_rows.proofs.read_row as read-row
 use Rattle.scan_rows.proofs.read_row.Symbol as read-row-def
-use Rattle.scan_rows.proofs.read_row.Symbol.{name as #rowread·read-row}
+use Rattle.scan_rows.proofs.read_row.Symbol.{name as #rows·read-row}
 use Rattle.scan_rows.proofs.read_row.Met as read-row-thm
 use Rattle.scan_rows.proofs.of_scan as of-scan
 use Rattle.scan_rows.proofs.of_scan.Symbol as of-scan-def
-use Rattle.scan_rows.proofs.of_scan.Symbol.{name as #rowread·of-scan}
+use Rattle.scan_rows.proofs.of_scan.Symbol.{name as #rows·of-scan}
 use Rattle.scan_rows.proofs.of_scan.Met as of-scan-thm
-use Rattle.scan_rows.proofs.nth_record.Key.{name as #rowread·nth-record}
+use Rattle.scan_rows.proofs.nth_record.Key.{name as #rows·nth-record}
 use Rattle.scan_rows.proofs.nth_record as nth-record
 use Rattle.scan_rows.proofs.nth_record.Statement as stated
 use Rattle.scan_rows.proofs.nth_record.Code as code
@@ -164,8 +165,8 @@ module _ {M : Type 1} (𝓤 : URA M) (H : Heap 𝓤) (A : Atoms 𝓤) (W : Given
   module _ (C : Calls 𝓤 H) (Λ : Loops 𝓤 H) (fm : FmC 𝓤 H (W .laws) C)
       (zero-known : Triple 𝓤 (C #scan·zero-record) (ZeroRecord 𝓤 H A mem run))
       (scan-known : Triple 𝓤 (C #rows·scan-into-rows) (ScanInto 𝓤 H A mem run))
-      (read-known : Triple 𝓤 (C #rowread·read-row) (ReadRow 𝓤 H A mem run))
-      (of-known : Triple 𝓤 (C #rowread·of-scan) (OfScan 𝓤 H A mem run)) where
+      (read-known : Triple 𝓤 (C #rows·read-row) (ReadRow 𝓤 H A mem run))
+      (of-known : Triple 𝓤 (C #rows·of-scan) (OfScan 𝓤 H A mem run)) where
     walk : Room u8 (length ring) → t < 2 ^ 8 → s₀ < 2 ^ 64 → n < 2 ^ 64
         → ent 𝓤 (onEntry 𝓤 H A nth-record.signature (κ, tt) (q, tt) a vals)
         (WpFn 𝓤 H C Λ code.function (sr ∷ vint w8 t ∷ vint w64 s₀ ∷ vint w64 n ∷ []) Post)
@@ -193,7 +194,8 @@ module _ {M : Type 1} (𝓤 : URA M) (H : Heap 𝓤) (A : Atoms 𝓤) (W : Given
         -- the array of 195 records of zeros: what it owns is made first, for the typing of its value
         use1 W (‵ (Array R 195 .own (replicate 195 zeroRecord) (arrayVal (replicate 195 w) ∷ [])))
         (array-repeat 𝓤 H A W R (LL.copy T.the-type T′.the-copy 𝓤 H A W) 195 zeroRecord w) $
-        peeks ! (Array R 195) (Is (Array R 195)) (shows 𝓤 H A (Array R 195)) (replicate 195 zeroRecord) (arrayVal (replicate 195 w) ∷ []) (λ isA.
+        peeks ! (Array R 195) (Is (Array R 195)) (shows 𝓤 H A (Array R 195)) (replicate 195 zeroRecord)
+        (arrayVal (replicate 195 w) ∷ []) (λ isA.
         assigns ! (rep ! 195 (load ! (from ! (stop !)) (look ! 10 refl))) (from ! (stop !)) (init ! 9 refl
         (array-lawful 𝓤 H A W R (LL.lawful T.the-type T′.the-laws 𝓤 H A W) 195 .typed (replicate 195 zeroRecord) _ isA .0)) $
         assigns ! (addr ! (from ! (stop !))) (from ! (stop !)) (init ! 6 refl (tt, tt)) $
@@ -287,8 +289,8 @@ module _ {M : Type 1} (𝓤 : URA M) (H : Heap 𝓤) (A : Atoms 𝓤) (W : Given
 
 module _ {M : Type 1} (𝓤 : URA M) (H : Heap 𝓤) (A : Atoms 𝓤) (W : Given 𝓤 H A) (mem : Memory → SProp 𝓤) (run : Routine → Fun 𝓤) where
   nth-record-walks : (C : Calls 𝓤 H) (Λ : Loops 𝓤 H) → FmC 𝓤 H (W .laws) C → Triple 𝓤 (C #scan·zero-record) (ZeroRecord 𝓤 H A mem run)
-      → Triple 𝓤 (C #rows·scan-into-rows) (ScanInto 𝓤 H A mem run) → Triple 𝓤 (C #rowread·read-row) (ReadRow 𝓤 H A mem run)
-      → Triple 𝓤 (C #rowread·of-scan) (OfScan 𝓤 H A mem run)
+      → Triple 𝓤 (C #rows·scan-into-rows) (ScanInto 𝓤 H A mem run) → Triple 𝓤 (C #rows·read-row) (ReadRow 𝓤 H A mem run)
+      → Triple 𝓤 (C #rows·of-scan) (OfScan 𝓤 H A mem run)
       → Walks 𝓤 H A nth-record.ended stayed (WpFn 𝓤 H C Λ code.function) (nth-record.clauses 𝓤 H A mem run)
   nth-record-walks C Λ fm known₁ known₂ known₃ known₄ =
       walked 𝓤 H A nth-record.ended stayed (nth-record.clauses 𝓤 H A mem run) (WpFn 𝓤 H C Λ code.function)
@@ -300,8 +302,8 @@ module _ {M : Type 1} (𝓤 : URA M) (H : Heap 𝓤) (A : Atoms 𝓤) (W : Given
 
 nth-record-meets : {M : Type 1} (𝓤 : URA M) (H : Heap 𝓤) (A : Atoms 𝓤) → Given 𝓤 H A → (mem : Memory → SProp 𝓤) (run : Routine → Fun 𝓤)
     (𝓣 : Tables 𝓤 H) → Triple 𝓤 (𝓣 .C #scan·zero-record) (ZeroRecord 𝓤 H A mem run)
-    → Triple 𝓤 (𝓣 .C #rows·scan-into-rows) (ScanInto 𝓤 H A mem run) → Triple 𝓤 (𝓣 .C #rowread·read-row) (ReadRow 𝓤 H A mem run)
-    → Triple 𝓤 (𝓣 .C #rowread·of-scan) (OfScan 𝓤 H A mem run)
+    → Triple 𝓤 (𝓣 .C #rows·scan-into-rows) (ScanInto 𝓤 H A mem run) → Triple 𝓤 (𝓣 .C #rows·read-row) (ReadRow 𝓤 H A mem run)
+    → Triple 𝓤 (𝓣 .C #rows·of-scan) (OfScan 𝓤 H A mem run)
     → Meets 𝓤 H A nth-record.signature (WpFn 𝓤 H (𝓣 .C) (𝓣 .Λ) code.function) (nth-record.spec 𝓤 H A mem run)
 nth-record-meets 𝓤 H A W mem run 𝓣 known₁ known₂ known₃ known₄ =
     walk-meets 𝓤 H A nth-record.ended stayed W (
@@ -321,13 +323,13 @@ pub nth-record-spec : {M : Type 1} → stated.statement M
 unfolding code.routine tablesOf
 nth-record-spec 𝓤 H 𝓜 𝓖 𝓡 =
     entered 𝓤 H (tripleOf 𝓤 H (𝓖 .A) nth-record.signature (nth-record.spec 𝓤 H (𝓖 .A) (𝓜 .mem) (𝓡 .run)))
-    (tables 𝓤 H 𝓜 𝓡 code.env .C) (tables 𝓤 H 𝓜 𝓡 code.env .Λ) #rowread·nth-record code.function (code.unfolded 𝓤 H 𝓜 𝓡)
+    (tables 𝓤 H 𝓜 𝓡 code.env .C) (tables 𝓤 H 𝓜 𝓡 code.env .Λ) #rows·nth-record code.function (code.unfolded 𝓤 H 𝓜 𝓡)
     (nth-record-meets 𝓤 H (𝓖 .A) (givenOf 𝓤 H 𝓜 𝓖) (𝓜 .mem) (𝓡 .run) (tablesOf 𝓤 H 𝓜 (tables 𝓤 H 𝓜 𝓡 code.env))
     (cited 𝓤 H (ZeroRecord 𝓤 H (𝓖 .A) (𝓜 .mem) (𝓡 .run)) 𝓜 𝓡 code.env #scan·zero-record zero-record-def.routine
     code.calls-scan·zero-record (zero-record-thm.met 𝓤 H 𝓜 𝓖 𝓡))
     (cited 𝓤 H (ScanInto 𝓤 H (𝓖 .A) (𝓜 .mem) (𝓡 .run)) 𝓜 𝓡 code.env #rows·scan-into-rows scan-into-rows-def.routine
     code.calls-scan-rows·scan-into-rows (scan-into-rows-thm.met 𝓤 H 𝓜 𝓖 𝓡))
-    (cited 𝓤 H (ReadRow 𝓤 H (𝓖 .A) (𝓜 .mem) (𝓡 .run)) 𝓜 𝓡 code.env #rowread·read-row read-row-def.routine
+    (cited 𝓤 H (ReadRow 𝓤 H (𝓖 .A) (𝓜 .mem) (𝓡 .run)) 𝓜 𝓡 code.env #rows·read-row read-row-def.routine
     code.calls-scan-rows·read-row (read-row-thm.met 𝓤 H 𝓜 𝓖 𝓡))
-    (cited 𝓤 H (OfScan 𝓤 H (𝓖 .A) (𝓜 .mem) (𝓡 .run)) 𝓜 𝓡 code.env #rowread·of-scan of-scan-def.routine
+    (cited 𝓤 H (OfScan 𝓤 H (𝓖 .A) (𝓜 .mem) (𝓡 .run)) 𝓜 𝓡 code.env #rows·of-scan of-scan-def.routine
     code.calls-scan-rows·of-scan (of-scan-thm.met 𝓤 H 𝓜 𝓖 𝓡)))

@@ -1,6 +1,5 @@
--- `rowread::read_row` meets its contract: a walk of its code, by hand, with a branch. Where n is a row the record is copied out of the
--- slice, and
--- `a_row` called on it; where it is none, `no_row`.
+-- `read_row` meets its contract: a walk of its code, by hand, with a branch. Where n is a row the record is copied out of the
+-- slice, and `a_row` called on it; where it is none, `no_row`.
 use mathlib.Core.Path.{_≡_, refl, sym, ap, subst, _∙_}
 use Prim.Native.Nat.{ℕ, _<_, _^_}
 use mathlib.Core.List.{[], _∷_, List}
@@ -53,18 +52,18 @@ use Rattle.scan_rows.specs.Rows.{hasRow, aRow, noRow, rowAt}
 use Rattle.scan_rows.proofs.Row as Q
 use Rattle.scan_rows.proofs.Row.Laws as Q′
 use Rattle.scan_rows.proofs.Records.{R, mach, scaled, picks, passes}
-use Rattle.scan_rows.proofs.read_row.Key.{name as #rowread·read-row}
+use Rattle.scan_rows.proofs.read_row.Key.{name as #rows·read-row}
 use Rattle.scan_rows.proofs.read_row as read-row
 use Rattle.scan_rows.proofs.read_row.Statement as stated
 use Rattle.scan_rows.proofs.read_row.Code as code
 use Rattle.scan_rows.proofs.read_row.Code.Mir.{t-4}
 use Rattle.scan_rows.proofs.a_row as a-row
 use Rattle.scan_rows.proofs.a_row.Symbol as a-row-def
-use Rattle.scan_rows.proofs.a_row.Symbol.{name as #rowread·a-row}
+use Rattle.scan_rows.proofs.a_row.Symbol.{name as #rows·a-row}
 use Rattle.scan_rows.proofs.a_row.Met as a-row-thm
 use Rattle.scan_rows.proofs.no_row as no-row
 use Rattle.scan_rows.proofs.no_row.Symbol as no-row-def
-use Rattle.scan_rows.proofs.no_row.Symbol.{name as #rowread·no-row}
+use Rattle.scan_rows.proofs.no_row.Symbol.{name as #rows·no-row}
 use Rattle.scan_rows.proofs.no_row.Met as no-row-thm
 
 -- the answer's row type, and its machine value
@@ -146,8 +145,8 @@ module _ {M : Type 1} (𝓤 : URA M) (H : Heap 𝓤) (A : Atoms 𝓤) (W : Given
   made : (r : Row) (w : Val) → r ≡ answer → Is S r (w ∷ []) → Is S answer (told answer ∷ [])
   made r w e is = subst (λ (d : Row). Is S d (told d ∷ [])) e (subst (Is S r) (LL.tells Q.the-type Q′.the-laws r (w ∷ []) is) is)
 
-  module _ (C : Calls 𝓤 H) (Λ : Loops 𝓤 H) (fm : FmC 𝓤 H (W .laws) C) (a-row-known : Triple 𝓤 (C #rowread·a-row) (ARow 𝓤 H A mem run))
-      (no-row-known : Triple 𝓤 (C #rowread·no-row) (NoRow 𝓤 H A mem run)) where
+  module _ (C : Calls 𝓤 H) (Λ : Loops 𝓤 H) (fm : FmC 𝓤 H (W .laws) C) (a-row-known : Triple 𝓤 (C #rows·a-row) (ARow 𝓤 H A mem run))
+      (no-row-known : Triple 𝓤 (C #rows·no-row) (NoRow 𝓤 H A mem run)) where
     walk : Room R (length ys) → n < 2 ^ 64
         → ent 𝓤 (onEntry 𝓤 H A read-row.signature (κ, tt) (q, tt) a vals) (WpFn 𝓤 H C Λ code.function (s ∷ vint w64 n ∷ []) Post)
     walk room gn =
@@ -229,8 +228,8 @@ module _ {M : Type 1} (𝓤 : URA M) (H : Heap 𝓤) (A : Atoms 𝓤) (W : Given
         by ! (exits h)))))))))))))))
 
 module _ {M : Type 1} (𝓤 : URA M) (H : Heap 𝓤) (A : Atoms 𝓤) (W : Given 𝓤 H A) (mem : Memory → SProp 𝓤) (run : Routine → Fun 𝓤) where
-  read-row-walks : (C : Calls 𝓤 H) (Λ : Loops 𝓤 H) → FmC 𝓤 H (W .laws) C → Triple 𝓤 (C #rowread·a-row) (ARow 𝓤 H A mem run)
-      → Triple 𝓤 (C #rowread·no-row) (NoRow 𝓤 H A mem run)
+  read-row-walks : (C : Calls 𝓤 H) (Λ : Loops 𝓤 H) → FmC 𝓤 H (W .laws) C → Triple 𝓤 (C #rows·a-row) (ARow 𝓤 H A mem run)
+      → Triple 𝓤 (C #rows·no-row) (NoRow 𝓤 H A mem run)
       → Walks 𝓤 H A read-row.ended stayed (WpFn 𝓤 H C Λ code.function) (read-row.clauses 𝓤 H A mem run)
   read-row-walks C Λ fm known₁ known₂ = walked 𝓤 H A read-row.ended stayed (read-row.clauses 𝓤 H A mem run) (WpFn 𝓤 H C Λ code.function)
       (λ κs. (slice-vals, (uint-vals w64, tt))) (λ κs. (shr-slice-tells (named 0) (κs .0) R, (uint-tells w64, tt)))
@@ -240,7 +239,7 @@ module _ {M : Type 1} (𝓤 : URA M) (H : Heap 𝓤) (A : Atoms 𝓤) (W : Given
       (are .1 .0 .1)))
 
 read-row-meets : {M : Type 1} (𝓤 : URA M) (H : Heap 𝓤) (A : Atoms 𝓤) → Given 𝓤 H A → (mem : Memory → SProp 𝓤) (run : Routine → Fun 𝓤)
-    (𝓣 : Tables 𝓤 H) → Triple 𝓤 (𝓣 .C #rowread·a-row) (ARow 𝓤 H A mem run) → Triple 𝓤 (𝓣 .C #rowread·no-row) (NoRow 𝓤 H A mem run)
+    (𝓣 : Tables 𝓤 H) → Triple 𝓤 (𝓣 .C #rows·a-row) (ARow 𝓤 H A mem run) → Triple 𝓤 (𝓣 .C #rows·no-row) (NoRow 𝓤 H A mem run)
     → Meets 𝓤 H A read-row.signature (WpFn 𝓤 H (𝓣 .C) (𝓣 .Λ) code.function) (read-row.spec 𝓤 H A mem run)
 read-row-meets 𝓤 H A W mem run 𝓣 known₁ known₂ =
     walk-meets 𝓤 H A read-row.ended stayed W (
@@ -258,9 +257,9 @@ pub read-row-spec : {M : Type 1} → stated.statement M
 unfolding code.routine tablesOf
 read-row-spec 𝓤 H 𝓜 𝓖 𝓡 =
     entered 𝓤 H (tripleOf 𝓤 H (𝓖 .A) read-row.signature (read-row.spec 𝓤 H (𝓖 .A) (𝓜 .mem) (𝓡 .run)))
-    (tables 𝓤 H 𝓜 𝓡 code.env .C) (tables 𝓤 H 𝓜 𝓡 code.env .Λ) #rowread·read-row code.function (code.unfolded 𝓤 H 𝓜 𝓡)
+    (tables 𝓤 H 𝓜 𝓡 code.env .C) (tables 𝓤 H 𝓜 𝓡 code.env .Λ) #rows·read-row code.function (code.unfolded 𝓤 H 𝓜 𝓡)
     (read-row-meets 𝓤 H (𝓖 .A) (givenOf 𝓤 H 𝓜 𝓖) (𝓜 .mem) (𝓡 .run) (tablesOf 𝓤 H 𝓜 (tables 𝓤 H 𝓜 𝓡 code.env))
-    (cited 𝓤 H (ARow 𝓤 H (𝓖 .A) (𝓜 .mem) (𝓡 .run)) 𝓜 𝓡 code.env #rowread·a-row a-row-def.routine code.calls-scan-rows·a-row
+    (cited 𝓤 H (ARow 𝓤 H (𝓖 .A) (𝓜 .mem) (𝓡 .run)) 𝓜 𝓡 code.env #rows·a-row a-row-def.routine code.calls-scan-rows·a-row
     (a-row-thm.met 𝓤 H 𝓜 𝓖 𝓡))
-    (cited 𝓤 H (NoRow 𝓤 H (𝓖 .A) (𝓜 .mem) (𝓡 .run)) 𝓜 𝓡 code.env #rowread·no-row no-row-def.routine code.calls-scan-rows·no-row
+    (cited 𝓤 H (NoRow 𝓤 H (𝓖 .A) (𝓜 .mem) (𝓡 .run)) 𝓜 𝓡 code.env #rows·no-row no-row-def.routine code.calls-scan-rows·no-row
     (no-row-thm.met 𝓤 H 𝓜 𝓖 𝓡)))

@@ -1,6 +1,5 @@
--- `rows::scan_into_rows` meets its contract: a walk of its code, by hand, with a branch. `refusal` tells whether the scan goes; where it
--- does the rows are
--- lent again to `list_rows` for a lifetime made for the call (`Again`), and the ring passed as a copy.
+-- `scan_into_rows` meets its contract: a walk of its code, by hand, with a branch. `refusal` tells whether the scan goes; where it
+-- does the rows are lent again to `list_rows` for a lifetime made for the call (`Again`), and the ring passed as a copy.
 use mathlib.Core.Path.{_≡_, refl, sym, ap, subst, _∙_}
 use Prim.Native.Nat.{ℕ, _<_, _≤_, _^_}
 use mathlib.Core.Bool.{not}

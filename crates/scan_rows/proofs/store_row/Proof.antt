@@ -1,4 +1,4 @@
--- `rows::store_row` meets its contract: a walk of its code, by hand, with a branch. Where n is a row its slice is opened, the record
+-- `store_row` meets its contract: a walk of its code, by hand, with a branch. Where n is a row its slice is opened, the record
 -- stored as one
 -- cell, and the slice closed; where it is none nothing is opened.
 use mathlib.Core.Path.{_≡_, refl, sym, ap, subst}
