@@ -4,8 +4,9 @@ use mathlib.Core.List.{List, [], _∷_, _++_}
 use Prim.Native.Nat.{ℕ, _+_, _≤_, _<_, _/_}
 use native.Mathlib.Omega.{arith}
 use lib.ListN.{length, take, drop, length-append, length-take}
-use Rattle.pages.specs.Page.{ascii, Text, allOf}
-use Rattle.pages.proofs.PageLaws.{append-long, Within}
+use Rattle.base.specs.Words.{ascii}
+use Rattle.page.specs.Page.{Text, allOf}
+use Rattle.page.proofs.PageLaws.{append-long, Within}
 use Rattle.base.specs.Choice.{pick}
 use Rattle.nib_catalogue.specs.declared.Entry.{Entry}
 use Rattle.nib_catalogue.specs.declared.Entry.the-variants.{At, Absent, Refused as NoEntry}

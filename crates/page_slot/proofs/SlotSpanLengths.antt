@@ -4,8 +4,8 @@ use Prim.Native.Nat.{ℕ, suc, _+_, _-_, _≤_, _<_, zero}
 use native.Mathlib.Omega.{arith}
 use lib.ListN.{length, getD, length-append}
 use Rattle.base.proofs.Tests.{pick-lt}
-use Rattle.pages.specs.Page.{allOf}
-use Rattle.pages.proofs.PageLaws.{Within}
+use Rattle.page.specs.Page.{allOf}
+use Rattle.page.proofs.PageLaws.{Within}
 use lib.Dec.{eqb}
 use Rattle.nib_orbit.specs.Orbit.{agreements, agreeing}
 use Rattle.page_text.proofs.DecimalLaws.{decimal-width}

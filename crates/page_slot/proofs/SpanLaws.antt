@@ -3,9 +3,10 @@ use mathlib.Core.Path.{_≡_}
 use mathlib.Core.List.{List, [], _∷_}
 use Prim.Native.Nat.{ℕ, _-_}
 use lib.ListN.{length}
-use Rattle.lines.specs.Line.{numberText}
-use Rattle.pages.specs.Page.{ascii, Page, writes}
-use Rattle.pages.proofs.PageLaws.{then}
+use Rattle.page.specs.Wording.{numberText}
+use Rattle.base.specs.Words.{ascii}
+use Rattle.page.specs.Page.{Page, writes}
+use Rattle.page.proofs.PageLaws.{then}
 use Rattle.nib_orbit.specs.Orbit.{agreements}
 use Rattle.page_slot.specs.Span.{spanText}
 

@@ -5,8 +5,9 @@ use mathlib.Core.List.{List, [], _∷_, _++_}
 use lib.Dec.{eqb}
 use lib.ListN.{take, drop}
 use Rattle.base.specs.Choice.{pick}
-use Rattle.lines.specs.Line.{numberText}
-use Rattle.pages.specs.Page.{ascii, Text}
+use Rattle.page.specs.Wording.{numberText}
+use Rattle.base.specs.Words.{ascii}
+use Rattle.page.specs.Page.{Text}
 use mathlib.Core.Bool.{Bool}
 use Rattle.nib_slots.specs.declared.NibSlot.{NibSlot}
 use Rattle.nib_slots.specs.declared.NibSlot.the-variants.{Ring, Empty, Refused}

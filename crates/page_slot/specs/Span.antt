@@ -1,8 +1,9 @@
 -- The span that is taken for one turn of the disk, and what speaks for it.
 use Prim.Native.Nat.{ℕ}
 use mathlib.Core.List.{List, [], _∷_}
-use Rattle.lines.specs.Line.{numberText}
-use Rattle.pages.specs.Page.{ascii, Text}
+use Rattle.page.specs.Wording.{numberText}
+use Rattle.base.specs.Words.{ascii}
+use Rattle.page.specs.Page.{Text}
 use Rattle.nib_orbit.specs.Orbit.{agreements, observations}
 
 -- zone and span, and how many of the pairs of bytes that lie a span apart agree

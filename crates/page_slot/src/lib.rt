@@ -5,7 +5,7 @@
 ghost use mathlib.Core.Path.{_≡_};
 ghost use Prim.Native.Nat.{_<_, _≤_};
 ghost use lib.ListN.{length};
-ghost use Rattle.pages.specs.Page.{sheet, writes};
+ghost use Rattle.page.specs.Page.{sheet, writes};
 ghost use Rattle.page_slot.specs.Span.{spanText};
 ghost use Rattle.geometry.specs.Zones.{sectorsOf};
 ghost use Rattle.ring.specs.Bit.{IsRing};
@@ -22,10 +22,10 @@ pub fn put_span(page: &mut [u8], at: usize, window: &[u8], span: usize, zone: u8
     ensures { λ r. ⌜ sheet (now (page .exit)) r ≡ writes (sheet (now (page .entry)) at) (spanText (now (window .entry)) span zone) ⌝ }
 {
     let count = nib_orbit::agreements(window, span);
-    let a = pages::counted(page, at, b" zone", zone as u64);
-    let b = pages::counted(page, a, b" span", span as u64);
-    let c = pages::counted(page, b, b" agreements", count as u64);
-    pages::counted(page, c, b" of", (window.len() - span) as u64)
+    let a = page::counted(page, at, b" zone", zone as u64);
+    let b = page::counted(page, a, b" span", span as u64);
+    let c = page::counted(page, b, b" agreements", count as u64);
+    page::counted(page, c, b" of", (window.len() - span) as u64)
 }
 
 // The statuses of a track's sectors in the turn that the first `span` bytes of a window begin.
@@ -67,11 +67,11 @@ fn put_lost_at(
     if window[j] != 1 {
         return at;
     }
-    let behind = pages::counted(page, at, b"; sector", j as u64);
+    let behind = page::counted(page, at, b"; sector", j as u64);
     if turn[j] == 1 {
-        return pages::words(page, behind, b" lost across the join");
+        return page::words(page, behind, b" lost across the join");
     }
-    pages::words(page, behind, b" only behind the span")
+    page::words(page, behind, b" only behind the span")
 }
 
 fn put_lost(page: &mut [u8], at: usize, ring: &[u8], turn: &[u8], window: &[u8]) -> usize
@@ -94,8 +94,8 @@ fn put_found(page: &mut [u8], at: usize, ring: &[u8], turn: &[u8], window: &[u8]
     ensures { λ r. ⌜ sheet (now (page .exit)) r ≡ writes (sheet (now (page .entry)) at)
         (foundText (now (ring .entry)) (now (turn .entry)) (now (window .entry))) ⌝ }
 {
-    let a = page_track::put_tally(page, at, b" ring", ring);
-    let b = page_track::put_tally(page, a, b" window", window);
+    let a = page::tally(page, at, b" ring", ring);
+    let b = page::tally(page, a, b" window", window);
     put_lost(page, b, ring, turn, window)
 }
 
@@ -145,11 +145,11 @@ pub fn put_sectors(page: &mut [u8], at: usize, window: &[u8], span: usize, track
 fn put_name(page: &mut [u8], at: usize, slot: usize) -> usize
     ensures { λ r. ⌜ sheet (now (page .exit)) r ≡ writes (sheet (now (page .entry)) at) (nameText slot) ⌝ }
 {
-    let a = pages::counted(page, at, b"track", (slot / 2 + 1) as u64);
+    let a = page::counted(page, at, b"track", (slot / 2 + 1) as u64);
     if slot % 2 == 0 {
         return a;
     }
-    pages::words(page, a, b".5")
+    page::words(page, a, b".5")
 }
 
 // A half-track between two tracks has no sectors.
@@ -178,7 +178,7 @@ fn put_window(
     let a = put_name(page, at, slot);
     let b = put_span(page, a, window, span, zone);
     let c = put_if_whole(page, b, window, slot, span);
-    pages::words(page, c, b"\n")
+    page::words(page, c, b"\n")
 }
 
 // The line of a slot of a NIB file; nothing where the file has no such slot.

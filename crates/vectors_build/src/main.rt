@@ -7,18 +7,18 @@ use track_build::Built;
 
 // A line with its end, written.
 fn write(line: &mut [u8], at: usize) {
-    let n = lines::words(line, at, b"\n");
-    io::write_all(STDOUT_FILENO, lines::so_far(line, n));
+    let n = page::words(line, at, b"\n");
+    io::write_all(STDOUT_FILENO, page::so_far(line, n));
 }
 
 // How the line about an answer begins.
 fn tell(line: &mut [u8], answer: Built) -> usize {
     match answer {
         Built::Written(n) => {
-            let at = lines::words(line, 0, b"built");
-            lines::number(line, at, n as u64)
+            let at = page::words(line, 0, b"built");
+            page::number(line, at, n as u64)
         }
-        Built::Refused(n) => lines::refused(line, 0, n),
+        Built::Refused(n) => page::refused(line, 0, n),
     }
 }
 
@@ -27,7 +27,7 @@ fn build(target: &mut [u8], source: &[u8], row: Row) {
     let mut line = [0u8; 128];
     let mut at = tell(&mut line, assembly::build(target, source, row));
     let room = assembly::part(target, row.a as usize, row.b as usize);
-    at = lines::sum(&mut line, at, sum::mix_all(sum::START, room));
+    at = page::sum(&mut line, at, sum::mix_all(sum::START, room));
     write(&mut line, at);
 }
 

@@ -7,20 +7,20 @@ use replay_shared::sum;
 
 // A line with its end, written.
 fn write(line: &mut [u8], at: usize) {
-    let n = lines::words(line, at, b"\n");
-    io::write_all(STDOUT_FILENO, lines::so_far(line, n));
+    let n = page::words(line, at, b"\n");
+    io::write_all(STDOUT_FILENO, page::so_far(line, n));
 }
 
 // How a line about an answer begins.
 fn tell(line: &mut [u8], answer: Outcome) -> usize {
     match answer {
         Outcome::Cleared { free, changed } => {
-            let mut at = lines::words(line, 0, b"free");
-            at = lines::number(line, at, free as u64);
-            at = lines::words(line, at, b" changed");
-            lines::number(line, at, changed as u64)
+            let mut at = page::words(line, 0, b"free");
+            at = page::number(line, at, free as u64);
+            at = page::words(line, at, b" changed");
+            page::number(line, at, changed as u64)
         }
-        Outcome::Refused(n) => lines::refused(line, 0, n),
+        Outcome::Refused(n) => page::refused(line, 0, n),
     }
 }
 
@@ -28,7 +28,7 @@ fn tell(line: &mut [u8], answer: Outcome) -> usize {
 fn clear(image: &mut [u8]) {
     let mut line = [0u8; 128];
     let mut at = tell(&mut line, reclaim::clear_g64(image));
-    at = lines::sum(&mut line, at, sum::mix_all(sum::START, image));
+    at = page::sum(&mut line, at, sum::mix_all(sum::START, image));
     write(&mut line, at);
 }
 

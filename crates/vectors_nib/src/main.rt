@@ -10,8 +10,8 @@ use replay_shared::sum;
 
 // A line with its end, written.
 fn write(line: &mut [u8], at: usize) {
-    let n = lines::words(line, at, b"\n");
-    io::write_all(STDOUT_FILENO, lines::so_far(line, n));
+    let n = page::words(line, at, b"\n");
+    io::write_all(STDOUT_FILENO, page::so_far(line, n));
 }
 
 struct Slots {
@@ -51,12 +51,12 @@ fn all_slots(file: &[u8]) -> Slots {
 fn tell_slots(line: &mut [u8], file: &[u8]) -> usize {
     let zone = nib_slots::nib_zone(file, 0);
     match zone {
-        Zone::Refused(n) => lines::refused(line, 0, n),
+        Zone::Refused(n) => page::refused(line, 0, n),
         Zone::Is(_) => {
             let slots = all_slots(file);
-            let mut at = lines::words(line, 0, b"slots");
-            at = lines::number(line, at, slots.present);
-            lines::sum(line, at, slots.total)
+            let mut at = page::words(line, 0, b"slots");
+            at = page::number(line, at, slots.present);
+            page::sum(line, at, slots.total)
         }
     }
 }
@@ -71,14 +71,14 @@ fn whole(target: &[u8], row: Row) {
 fn tell_slot(line: &mut [u8], file: &[u8], slot: usize) -> usize {
     let zone = nib_slots::nib_zone(file, slot);
     match zone {
-        Zone::Refused(n) => lines::refused(line, 0, n),
+        Zone::Refused(n) => page::refused(line, 0, n),
         Zone::Is(z) => {
             let ring = nib_slots::nib_ring(file, slot);
-            let mut at = lines::words(line, 0, b"zone");
-            at = lines::number(line, at, z as u64);
-            at = lines::words(line, at, b" length");
-            at = lines::number(line, at, ring.len() as u64);
-            lines::sum(line, at, sum::mix_all(sum::START, ring))
+            let mut at = page::words(line, 0, b"zone");
+            at = page::number(line, at, z as u64);
+            at = page::words(line, at, b" length");
+            at = page::number(line, at, ring.len() as u64);
+            page::sum(line, at, sum::mix_all(sum::START, ring))
         }
     }
 }
@@ -117,10 +117,10 @@ fn read_lengths(lengths: &mut [u64], source: &[u8])
 fn tell_encoded(line: &mut [u8], answer: Encoded) -> usize {
     match answer {
         Encoded::Written(n) => {
-            let at = lines::words(line, 0, b"encoded");
-            lines::number(line, at, n as u64)
+            let at = page::words(line, 0, b"encoded");
+            page::number(line, at, n as u64)
         }
-        Encoded::Refused(n) => lines::refused(line, 0, n),
+        Encoded::Refused(n) => page::refused(line, 0, n),
     }
 }
 
@@ -133,7 +133,7 @@ fn encode_into(room: &mut [u8], source: &[u8], row: Row, lengths: &[u64]) {
         &mut line,
         nib_write::encode_nib(lengths, zones, rings, room),
     );
-    at = lines::sum(&mut line, at, sum::mix_all(sum::START, room));
+    at = page::sum(&mut line, at, sum::mix_all(sum::START, room));
     write(&mut line, at);
 }
 

@@ -5,16 +5,16 @@ use replay::Row;
 
 // A line with its end, written.
 fn write(line: &mut [u8], at: usize) {
-    let n = lines::words(line, at, b"\n");
-    io::write_all(STDOUT_FILENO, lines::so_far(line, n));
+    let n = page::words(line, at, b"\n");
+    io::write_all(STDOUT_FILENO, page::so_far(line, n));
 }
 
 fn span(target: &[u8], row: Row) {
     let window = assembly::part(target, row.a as usize, row.b as usize);
     let ring = nib_orbit::recover_orbit(window, (row.c % 256) as u8);
     let mut line = [0u8; 128];
-    let mut at = lines::words(&mut line, 0, b"span");
-    at = lines::number(&mut line, at, ring.len() as u64);
+    let mut at = page::words(&mut line, 0, b"span");
+    at = page::number(&mut line, at, ring.len() as u64);
     write(&mut line, at);
 }
 

@@ -9,8 +9,8 @@ use track_read::TrackRead;
 
 // A line with its end, written.
 fn write(line: &mut [u8], at: usize) {
-    let n = lines::words(line, at, b"\n");
-    io::write_all(STDOUT_FILENO, lines::so_far(line, n));
+    let n = page::words(line, at, b"\n");
+    io::write_all(STDOUT_FILENO, page::so_far(line, n));
 }
 
 fn least(a: usize, b: usize) -> usize
@@ -49,11 +49,11 @@ fn records_sum(rows: &[u64], payloads: &[u8], n: usize) -> u32
 fn tell_records(line: &mut [u8], answer: Scanned, rows: &[u64], payloads: &[u8]) -> usize {
     match answer {
         Scanned::Records(n) => {
-            let mut at = lines::words(line, 0, b"records");
-            at = lines::number(line, at, n as u64);
-            lines::sum(line, at, records_sum(rows, payloads, least(n, 195)))
+            let mut at = page::words(line, 0, b"records");
+            at = page::number(line, at, n as u64);
+            page::sum(line, at, records_sum(rows, payloads, least(n, 195)))
         }
-        Scanned::Refused(n) => lines::refused(line, 0, n),
+        Scanned::Refused(n) => page::refused(line, 0, n),
     }
 }
 
@@ -93,7 +93,7 @@ fn put_statuses(line: &mut [u8], from: usize, statuses: &[u8]) -> usize {
     let mut at = from;
     let mut i: usize = 0;
     while i < statuses.len() {
-        at = lines::words(line, at, &[48 + statuses[i] % 10]);
+        at = page::words(line, at, &[48 + statuses[i] % 10]);
         i += 1;
     }
     at
@@ -102,13 +102,13 @@ fn put_statuses(line: &mut [u8], from: usize, statuses: &[u8]) -> usize {
 fn tell_track(line: &mut [u8], answer: TrackRead, payloads: &[u8], statuses: &[u8]) -> usize {
     match answer {
         TrackRead::Found(n) => {
-            let mut at = lines::words(line, 0, b"found");
-            at = lines::number(line, at, n as u64);
-            at = lines::words(line, at, b" status ");
+            let mut at = page::words(line, 0, b"found");
+            at = page::number(line, at, n as u64);
+            at = page::words(line, at, b" status ");
             at = put_statuses(line, at, statuses);
-            lines::sum(line, at, sum::mix_all(sum::START, payloads))
+            page::sum(line, at, sum::mix_all(sum::START, payloads))
         }
-        TrackRead::Refused(n) => lines::refused(line, 0, n),
+        TrackRead::Refused(n) => page::refused(line, 0, n),
     }
 }
 

@@ -8,17 +8,17 @@ use sector::Replaced;
 
 // A line with its end, written.
 fn write(line: &mut [u8], at: usize) {
-    let n = lines::words(line, at, b"\n");
-    io::write_all(STDOUT_FILENO, lines::so_far(line, n));
+    let n = page::words(line, at, b"\n");
+    io::write_all(STDOUT_FILENO, page::so_far(line, n));
 }
 
 fn tell_sector(line: &mut [u8], answer: Sector) -> usize {
     if !answer.ok {
-        return lines::refused(line, 0, answer.number);
+        return page::refused(line, 0, answer.number);
     }
     let bytes = answer.bytes;
-    let at = lines::words(line, 0, b"sector");
-    lines::sum(line, at, sum::mix_all(sum::START, &bytes))
+    let at = page::words(line, 0, b"sector");
+    page::sum(line, at, sum::mix_all(sum::START, &bytes))
 }
 
 fn decoded(ring: &[u8], track: u8, number: u8, unique: bool) -> Sector {
@@ -39,8 +39,8 @@ fn read(target: &[u8], row: Row, unique: bool) {
 
 fn tell_replaced(line: &mut [u8], answer: Replaced) -> usize {
     match answer {
-        Replaced::Written => lines::words(line, 0, b"written"),
-        Replaced::Refused(n) => lines::refused(line, 0, n),
+        Replaced::Written => page::words(line, 0, b"written"),
+        Replaced::Refused(n) => page::refused(line, 0, n),
     }
 }
 
@@ -55,7 +55,7 @@ fn replaced(ring: &mut [u8], track: u8, number: u8, bytes: &[u8; 256], unique: b
 fn replace_in(ring: &mut [u8], track: u8, number: u8, bytes: &[u8; 256], unique: bool) {
     let mut line = [0u8; 128];
     let mut at = tell_replaced(&mut line, replaced(ring, track, number, bytes, unique));
-    at = lines::sum(&mut line, at, sum::mix_all(sum::START, ring));
+    at = page::sum(&mut line, at, sum::mix_all(sum::START, ring));
     write(&mut line, at);
 }
 

@@ -4,8 +4,8 @@ use mathlib.Core.List.{List}
 use Prim.Native.Nat.{ℕ, _+_, _-_}
 use lib.ListN.{length, take, drop, length-drop}
 use lib.Seq.{length-take-le}
-use Rattle.pages.specs.Page.{sheet, writes}
-use Rattle.pages.proofs.PageLaws.{nothing}
+use Rattle.page.specs.Page.{sheet, writes}
+use Rattle.page.proofs.PageLaws.{nothing}
 use Rattle.page_slot.specs.Slots.{slotLine}
 use Rattle.page_slot.proofs.SlotLaws.{Placed, placed, text-is, window-is}
 use borrow.Author.Needs.{needs}
