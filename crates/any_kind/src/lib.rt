@@ -1,6 +1,6 @@
 // Clearing an image of any kind.
 ghost use mathlib.Core.Path.{_≡_};
-ghost use Rattle.reclaim.specs.Contracts.{answer};
+ghost use Rattle.reclaim.specs.Inside.{answer};
 ghost use Rattle.any_kind.specs.AnyKind.{cleared};
 use image_kind::Kind;
 use reclaim::Outcome;

@@ -8,7 +8,7 @@ use Rattle.page.specs.Wording.{numberText}
 use Rattle.base.specs.Words.{ascii}
 use Rattle.page.specs.Page.{together, Page, writes}
 use Rattle.page.proofs.PageLaws.{nothing, then}
-use Rattle.image_statuses.specs.Statuses.{ringStatuses}
+use Rattle.track_read.specs.Answers.{ringStatuses}
 use native.Mathlib.Nat.{sub-zero}
 use Rattle.page.specs.Tally.{tallyText}
 use Rattle.page_slot.specs.Turn.{turnStatuses}

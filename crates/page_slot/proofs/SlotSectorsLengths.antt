@@ -9,8 +9,8 @@ use Rattle.page.specs.Wording.{numberText}
 use Rattle.base.specs.Words.{ascii}
 use Rattle.page.specs.Page.{together, allOf}
 use Rattle.page.proofs.PageLaws.{append-long, together-long, Within}
-use Rattle.image_statuses.specs.Statuses.{ringStatuses}
-use Rattle.image_statuses.proofs.StatusLaws.{ring-count}
+use Rattle.track_read.specs.Answers.{ringStatuses}
+use Rattle.track_read.proofs.StatusLaws.{ring-count}
 use Rattle.base.proofs.Picks.{pick-ind}
 use Rattle.page_text.proofs.DecimalLaws.{decimal-width}
 use Rattle.page.specs.Tally.{tallyText}

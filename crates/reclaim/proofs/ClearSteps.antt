@@ -1,5 +1,5 @@
 -- Clearing an image of any kind as the code does it: a law for each way out.
-use mathlib.Core.Path.{_≡_, refl, ap, _∙_}
+use mathlib.Core.Path.{_≡_, refl, ap, ap₂, _∙_}
 use mathlib.Core.Bool.{Bool, true, false}
 use mathlib.Core.List.{List}
 use Prim.Native.Nat.{ℕ, zero, suc, _+_, _*_, _-_, _≤_, _<_}
@@ -24,12 +24,13 @@ use Rattle.image_sector.specs.Kinds.{Kind, d64Kind, ringsKind, kindOf, kindAt}
 use Rattle.reclaim_directory.specs.declared.Chain.{Chain}
 use Rattle.reclaim.specs.declared.Counts.{Counts}
 use Rattle.reclaim.specs.declared.Outcome.the-variants.{Cleared}
-use Rattle.reclaim_directory.specs.Disk.{bamFree, isFree, disk1541}
+use Rattle.reclaim_directory.specs.Disk.{disk1541, linksUpTo, bamSector}
+use Rattle.reclaim_directory.specs.Inside.{freeBy}
 use Rattle.reclaim_directory.specs.Chains.{chainOf}
-use Rattle.reclaim.specs.Clearing.{Work, hasData, cleared, clearSector, sectorsDone, tracksDone}
-use Rattle.reclaim.specs.Clearing.{untouched, refuse, finish, withChain, withBam, clearing}
-use Rattle.reclaim.specs.Counting.{freeSectors, freeTracks}
-use Rattle.reclaim.specs.Contracts.{work, answer}
+use Rattle.reclaim.specs.Clearing.{Work, hasData, atTurn, clearSector, sectorsDone, tracksDone}
+use Rattle.reclaim.specs.Clearing.{untouched, refuse, finish, clearing}
+use Rattle.reclaim.specs.Counting.{countOn, countTo}
+use Rattle.reclaim.specs.Inside.{work, answer}
 
 -- has a sector data
 pub unreadable : (found : Sector) → found .ok ≡ false → false ≡ hasData found
@@ -60,27 +61,27 @@ module _ (kind : Kind) (toClear : ℕ → ℕ → Bool) (t s : ℕ) (l : List �
   module _ (f : toClear t s ≡ true) (found : Sector) (q : found ≡ kind .read l t s) where
     pub turn-same : hasData found ≡ false
         → record { image = l; free = c .free + 1; changed = c .changed } ≡ clearSector kind toClear t s (work l c)
-    unfolding clearSector cleared
+    unfolding clearSector atTurn
     turn-same h = rw (f, rw q at h)
 
     pub turn-changed : hasData found ≡ true → (m : List ℕ) → m ≡ kind .zeroed t s l
         → record { image = m; free = c .free + 1; changed = c .changed + 1 } ≡ clearSector kind toClear t s (work l c)
-    unfolding clearSector cleared
+    unfolding clearSector atTurn
     turn-changed h m z = rw (f, rw q at h, z)
 
 -- the sectors of a track, by the kind on that track and by the table
 module _ (table : Table) (t : ℕ) where
   pub sectors-there : (kind : ImageKind) (free : ℕ → ℕ → Bool) (n : ℕ) (w : Work)
       → sectorsDone (kindAt kind (ringPlace table t)) free t n w ≡ sectorsDone (kindOf kind table) free t n w
-  unfolding sectorsDone clearSector cleared
+  unfolding sectorsDone clearSector atTurn
   sectors-there kind free zero w = refl
   sectors-there D64 free (suc n) w = ap (clearSector d64Kind free t n) (sectors-there D64 free n w)
   sectors-there G64 free (suc n) w = ap (clearSector (ringsKind unique table) free t n) (sectors-there G64 free n w)
   sectors-there Nib free (suc n) w = ap (clearSector (ringsKind consistent table) free t n) (sectors-there Nib free n w)
 
 -- no more are counted than there are sectors
-pub free-le : (free : ℕ → ℕ → Bool) (t k : ℕ) → freeSectors free t k ≤ k
-unfolding freeSectors
+pub free-le : (free : ℕ → ℕ → Bool) (t k : ℕ) → countOn free t k ≤ k
+unfolding countOn
 free-le free t zero = omega arith
 free-le free t (suc k) = let h = free-le free t k in let p = one (free t k) in omega arith
   where
@@ -88,24 +89,27 @@ free-le free t (suc k) = let h = free-le free t k in let p = one (free t k) in o
     one true = omega arith
     one false = omega arith
 
-pub tracks-le : (free : ℕ → ℕ → Bool) (k : ℕ) → freeTracks sectorsOf free k ≤ 21 * k
-unfolding freeTracks
+pub tracks-le : (free : ℕ → ℕ → Bool) (k : ℕ) → countTo sectorsOf free k ≤ 21 * k
+unfolding countTo
 tracks-le free zero = omega arith
 tracks-le free (suc k) = omega (arith, tracks-le free k, free-le free (suc k) (sectorsOf (suc k)), sectors-of (suc k) .1)
 
 -- ---- the whole: one law for each return of `clear_image`
-module _ (kind : Kind) (n : ℕ) (l : List ℕ) (b : Sector) (q : b ≡ kind .read l 18 0) where
-  pub no-bam : b .ok ≡ false → refuse l noDirectory ≡ clearing kind (disk1541 n) bamFree l
-  unfolding withBam
+module _ (kind : Kind) (n : ℕ) (l : List ℕ) (b : Sector) (q : b ≡ bamSector (kind .read l)) where
+  pub no-bam : b .ok ≡ false → refuse l noDirectory ≡ clearing kind (linksUpTo n disk1541) l
+  unfolding clearing
   no-bam o = rw (← q, o)
 
-  module _ (o : b .ok ≡ true) (k : Chain) (r : k ≡ chainOf (disk1541 n) (kind .read l) (b .bytes)) where
-    pub no-chain : k .ok ≡ false → refuse l wrongLink ≡ clearing kind (disk1541 n) bamFree l
-    unfolding withBam withChain
+  module _ (o : b .ok ≡ true) (k : Chain) (r : k ≡ chainOf (linksUpTo n disk1541) (kind .read l)) where
+    pub no-chain : k .ok ≡ false → refuse l wrongLink ≡ clearing kind (linksUpTo n disk1541) l
+    unfolding clearing
     no-chain p = rw (← q, o, ← r, p)
 
     pub all-cleared : k .ok ≡ true → (m : List ℕ) (c : Counts)
-        → work m c ≡ tracksDone kind sectorsOf (isFree (bamFree (b .bytes)) (k .marks)) 35 (untouched l)
-        → answer m (Cleared (c .free) (c .changed)) ≡ clearing kind (disk1541 n) bamFree l
-    unfolding withBam withChain
-    all-cleared p m c w = rw (← q, o, ← r, p) (ap finish w)
+        → work m c ≡ tracksDone kind (disk1541 .sectors) (freeBy (b .bytes) (k .marks)) (disk1541 .last) (untouched l)
+        → answer m (Cleared (c .free) (c .changed)) ≡ clearing kind (linksUpTo n disk1541) l
+    unfolding clearing freeBy
+    all-cleared p m c w =
+        rw (rw q at o, rw r at p)
+        (ap finish (w ∙ ap₂ (λ (x : Sector) (y : Chain). tracksDone kind (disk1541 .sectors) (freeBy (x .bytes) (y .marks))
+        (disk1541 .last) (untouched l)) q r))

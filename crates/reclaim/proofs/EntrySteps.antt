@@ -16,7 +16,7 @@ use Rattle.image.specs.Rings.{noTable}
 use Rattle.image.proofs.TableLaws.{AllInside, none-inside}
 use Rattle.image_sector.specs.declared.ImageKind.{ImageKind}
 use Rattle.image_sector.specs.declared.ImageKind.the-variants.{D64}
-use Rattle.reclaim_directory.specs.Disk.{bamFree, disk1541}
+use Rattle.reclaim_directory.specs.Disk.{disk1541, linksUpTo}
 use Rattle.reclaim.specs.Clearing.{refuse, clearing}
 use Rattle.image_sector.specs.Kinds.{d64Kind, ringsKind}
 use Rattle.reclaim.specs.Images.{byTracks, clearedD64, byTable}
@@ -29,7 +29,7 @@ module _ (l : List ℕ) where
   no-d64 e = rw e
 
   module _ (n : ℕ) (e : tracksOf (length l) ≡ Tracks n) where
-    pub as-d64 : clearing d64Kind (disk1541 n) bamFree l ≡ clearedD64 l
+    pub as-d64 : clearing d64Kind (linksUpTo n disk1541) l ≡ clearedD64 l
     unfolding clearedD64 byTracks
     as-d64 = rw e
 
@@ -45,7 +45,7 @@ module _ (rule : List SectorRecord → Sector) (l : List ℕ) (table : Table) wh
   unfolding byTable
   no-rings o = rw o
 
-  pub as-rings : table .ok ≡ true → clearing (ringsKind rule table) (disk1541 35) bamFree l ≡ byTable rule l table
+  pub as-rings : table .ok ≡ true → clearing (ringsKind rule table) disk1541 l ≡ byTable rule l table
   unfolding byTable
   as-rings o = rw o
 

@@ -13,7 +13,8 @@ use lib.Seq.{getD-set-same, getD-set-other}
 use borrow.Author.Tests.{ltb-true, leb-true}
 use Rattle.geometry.specs.Zones.{within}
 use Rattle.reclaim_directory.specs.Marks.{markPlace, unmarked}
-use Rattle.reclaim_directory.specs.Disk.{Disk, isAddress, isFree}
+use Rattle.reclaim_directory.specs.Disk.{Disk, isAddress, entryFree}
+use Rattle.reclaim_directory.specs.Inside.{freeBy}
 use Rattle.base.proofs.Picks.{and-left, and-right}
 
 -- a mark that is set leaves one unmarked less
@@ -60,10 +61,12 @@ place-in disk m t s f e = let a = address-facts disk t s e in omega (arith, a .0
 pub fits-set : (disk : Disk) (m : List Bool) (i : ℕ) → Fits disk m → Fits disk (set m i true)
 fits-set disk m i f = record { sectors = f .sectors; tracks = simp length-set (f .tracks) }
 
--- is a sector to be cleared: place is its mark's
-module _ (free : ℕ → ℕ → Bool) (marks : List Bool) (t s : ℕ) where
-  pub used : free t s ≡ false → false ≡ isFree free marks t s
+-- is a sector to be cleared, by the bytes of 18/0: place is its mark's
+module _ (bam : List ℕ) (marks : List Bool) (t s : ℕ) where
+  pub used : entryFree bam 4 1 t s ≡ false → false ≡ freeBy bam marks t s
+  unfolding freeBy
   used f = rw f
 
-  pub by-mark : free t s ≡ true → (place : ℕ) → place ≡ markPlace t s → not (getD marks place false) ≡ isFree free marks t s
+  pub by-mark : entryFree bam 4 1 t s ≡ true → (place : ℕ) → place ≡ markPlace t s → not (getD marks place false) ≡ freeBy bam marks t s
+  unfolding freeBy
   by-mark f place p = rw (f, p)

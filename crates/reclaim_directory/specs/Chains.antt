@@ -8,18 +8,14 @@ use Rattle.base.specs.Choice.{pick}
 use Rattle.base.specs.declared.Sector.{Sector}
 use Rattle.reclaim_directory.specs.declared.Chain.{Chain}
 use Rattle.reclaim_directory.specs.Marks.{noMarks, marked, mark, unmarked}
-use Rattle.reclaim_directory.specs.Disk.{Disk, isAddress}
+use Rattle.reclaim_directory.specs.Disk.{Reader, Disk, bamSector, isAddress, marksAtFirst}
 
--- what reading a sector answers, by the rule of the image's kind
-abbrev pub Reader : Type 0
-Reader = ℕ → ℕ → Sector
-
--- a chain that ended, and one that is refused: out of range, repeated, or unreadable
+-- a chain that ended, and one that is refused: out of range, repeated, or unreadable; of so many marks none is then set
 abbrev pub ended : ℕ → List Bool → Chain
 ended n marks = record { ok = true; length = n; marks = marks }
 
-unfoldable pub brokenChain : Chain
-brokenChain = record { ok = false; length = 0; marks = noMarks }
+unfoldable pub brokenChain : ℕ → Chain
+brokenChain n = record { ok = false; length = 0; marks = noMarks n }
 
 -- the track and the sector that a directory sector names
 abbrev pub nextTrack : Sector → ℕ
@@ -34,20 +30,20 @@ maygo disk read marks t s = isAddress disk t s && (not (marked marks t s) && rea
 
 -- the chain from an address on, after n sectors that are marked; at most `left` sectors more
 unfoldable pub chainFrom : ℕ → Disk → Reader → List Bool → ℕ → ℕ → ℕ → Chain
-chainFrom zero disk read marks n t s = brokenChain
+chainFrom zero disk read marks n t s = brokenChain (disk .marks)
 chainFrom (suc left) disk read marks n t s =
     pick (eqb t 0) (ended n marks)
     (pick (maygo disk read marks t s)
     (chainFrom left disk read (mark marks t s) (n + 1) (nextTrack (read t s)) (nextSector (read t s)))
-    brokenChain)
+    (brokenChain (disk .marks)))
 
 -- a chain ends, since each sector of it is marked (`enough` in proofs/)
 abbrev pub chainAt : Disk → Reader → List Bool → ℕ → ℕ → ℕ → Chain
 chainAt disk read marks n t s = chainFrom (suc (unmarked marks)) disk read marks n t s
 
--- the directory chain of a disk by the bytes of its 18/0; at first the BAM's sectors alone are marked
-unfoldable pub chainOf : Disk → Reader → List ℕ → Chain
-chainOf disk read bam =
-    pick (isAddress disk (getD bam 0 0) (getD bam 1 0))
-    (chainAt disk read (disk .bamMarks) 0 (getD bam 0 0) (getD bam 1 0))
-    brokenChain
+-- the directory chain of a disk, from the address on that 18/0 names; at first only what is kept in any case is marked
+unfoldable pub chainOf : Disk → Reader → Chain
+chainOf disk read =
+    pick (isAddress disk (nextTrack (bamSector read)) (nextSector (bamSector read)))
+    (chainAt disk read (marksAtFirst disk) 0 (nextTrack (bamSector read)) (nextSector (bamSector read)))
+    (brokenChain (disk .marks))

@@ -1,3 +1,4 @@
 pub mod Marks
 pub mod Disk
 pub mod Chains
+pub mod Inside

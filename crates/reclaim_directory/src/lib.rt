@@ -6,8 +6,9 @@ ghost use Rattle.image.specs.D64.{OnTracks};
 ghost use Rattle.image_sector.specs.Kinds.{kindOf};
 ghost use Rattle.image_sector.specs.Contracts.{Complete};
 ghost use Rattle.reclaim_directory.specs.Marks.{markPlace};
-ghost use Rattle.reclaim_directory.specs.Disk.{isAddress, entryFree, bamFree, isFree, disk1541};
+ghost use Rattle.reclaim_directory.specs.Disk.{isAddress, entryFree, disk1541, linksUpTo, bamSector};
 ghost use Rattle.reclaim_directory.specs.Chains.{brokenChain, chainAt, chainOf};
+ghost use Rattle.reclaim_directory.specs.Inside.{freeBy};
 use image::Table;
 use image_sector::ImageKind;
 
@@ -25,7 +26,7 @@ pub struct Chain {
 
 // Is this an address on a disk with that highest track?
 fn is_address(track: u8, sector: u8, highest: u8) -> bool
-    ensures { λ r. ⌜ r ≡ isAddress (disk1541 highest) track sector ⌝ }
+    ensures { λ r. ⌜ r ≡ isAddress (linksUpTo highest disk1541) track sector ⌝ }
 {
     if track < 1 {
         return false;
@@ -44,7 +45,7 @@ fn mark_place(track: u8, sector: u8) -> usize
 }
 
 fn broken_chain() -> Chain
-    ensures { λ r. ⌜ r ≡ brokenChain ⌝ }
+    ensures { λ r. ⌜ r ≡ brokenChain (disk1541 .marks) ⌝ }
 {
     Chain {
         ok: false,
@@ -66,7 +67,7 @@ fn follow(
     requires { ⌜ highest ≤ 42 ⌝ }
     requires { ⌜ Complete kind table (length (now image)) ⌝ }
     ensures { λ r. ⌜ r
-        ≡ chainAt (disk1541 highest) (kindOf kind table .read (now (image .entry))) first 0 «first_track» «first_sector» ⌝ }
+        ≡ chainAt (linksUpTo highest disk1541) (kindOf kind table .read (now (image .entry))) first 0 «first_track» «first_sector» ⌝ }
 {
     let mut marks = first;
     let mut n: usize = 0;
@@ -96,7 +97,7 @@ fn follow(
     }
 }
 
-// The directory chain of an image by its 18/0, which is marked too.
+// The directory chain of an image, whose 18/0 has been read; it is marked too.
 pub fn directory_chain(
     image: &[u8],
     kind: ImageKind,
@@ -106,7 +107,8 @@ pub fn directory_chain(
 ) -> Chain
     requires { ⌜ highest ≤ 42 ⌝ }
     requires { ⌜ Complete kind table (length (now image)) ⌝ }
-    ensures { λ r. ⌜ r ≡ chainOf (disk1541 highest) (kindOf kind table .read (now (image .entry))) (now (bam .entry)) ⌝ }
+    requires { ⌜ now bam ≡ bamSector (kindOf kind table .read (now image)) .bytes ⌝ }
+    ensures { λ r. ⌜ r ≡ chainOf (linksUpTo highest disk1541) (kindOf kind table .read (now (image .entry))) ⌝ }
 {
     let track = bam[0];
     let sector = bam[1];
@@ -131,8 +133,8 @@ fn is_free(bam: &[u8; 256], place: usize, first: u8, track: u8, sector: u8) -> b
 
 // Is a sector to be cleared: free by the BAM, and not kept?
 pub fn to_clear(bam: &[u8; 256], marks: &[bool; 882], track: u8, sector: u8) -> bool
-    requires { ⌜ OnTracks 35 track sector ⌝ }
-    ensures { λ r. ⌜ r ≡ isFree (bamFree (now (bam .entry))) (now (marks .entry)) track sector ⌝ }
+    requires { ⌜ OnTracks (disk1541 .last) track sector ⌝ }
+    ensures { λ r. ⌜ r ≡ freeBy (now (bam .entry)) (now (marks .entry)) track sector ⌝ }
 {
     if !is_free(bam, FIRST_ENTRY, FIRST_TRACK, track, sector) {
         return false;

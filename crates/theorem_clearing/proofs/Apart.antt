@@ -1,11 +1,12 @@
 -- Clearing an image whose sectors lie apart: a sector is zeros afterwards where it is free, and else as it was.
 --     tracks-kept     a sector that is not free, or is not reached
 --     tracks-blank    one that is free
+--     tracks-data     and those that are counted as changed are the free ones that had data before
 use mathlib.Core.Path.{_≡_, refl, sym, ap, _∙_}
 use mathlib.Core.Logic.{_≢_}
-use mathlib.Core.Bool.{Bool, true, false, _||_, not, true≢false}
+use mathlib.Core.Bool.{Bool, true, false, _&&_, _||_, not, true≢false}
 use mathlib.Core.List.{List, [], _∷_}
-use Prim.Native.Nat.{ℕ, zero, suc, _≤_, _<_}
+use Prim.Native.Nat.{ℕ, zero, suc, _+_, _≤_, _<_}
 use native.Mathlib.Decide.{ℕ-discrete}
 use native.Mathlib.Nat.{not-suc-le-zero}
 use native.Mathlib.Omega.{arith}
@@ -16,9 +17,11 @@ use Rattle.base.specs.declared.Sector.{Sector}
 use Rattle.base.specs.Bytes.{anyNonzero}
 use Rattle.base.specs.Sectors.{good}
 use Rattle.image_sector.specs.Kinds.{Kind}
-use Rattle.reclaim.specs.Clearing.{Work, hasData, cleared, clearSector, sectorsDone, tracksDone}
+use Rattle.reclaim.specs.Clearing.{Work, hasData, atTurn, clearSector, sectorsDone, tracksDone}
+use Rattle.reclaim.specs.Counting.{countOn, countTo}
+use Rattle.base.specs.Choice.{pick}
 use Rattle.base.proofs.Picks.{pick-ind, never}
-use Rattle.reclaim.proofs.Counted.{sectors-hold, tracks-hold}
+use Rattle.reclaim.proofs.Counted.{turn-exact, sectors-hold, tracks-hold}
 
 or-left : (a b : Bool) → a || b ≡ false → a ≡ false
 or-left true b e = e
@@ -53,7 +56,7 @@ module _ (kind : Kind) (Whole : List ℕ → Type 0) (In : ℕ → ℕ → Type 
 
   turn-kept : (t s t′ s′ : ℕ) (w : Work) → In t s → In t′ s′ → Whole (w .image) → ((t ≡ t′) → (s ≡ s′) → toClear t s ≡ false)
       → reading (clearSector kind toClear t s w) t′ s′ ≡ reading w t′ s′
-  unfolding clearSector cleared
+  unfolding clearSector atTurn
   turn-kept t s t′ s′ w i i′ g busy =
       pick-ind (λ (v : Work). reading v t′ s′ ≡ reading w t′ s′) (toClear t s) _ _
       (λ f. pick-ind (λ (v : Work). reading v t′ s′ ≡ reading w t′ s′) (hasData (reading w t s)) _ _
@@ -72,7 +75,7 @@ module _ (kind : Kind) (Whole : List ℕ → Type 0) (In : ℕ → ℕ → Type 
 
   turn-blank : (t s : ℕ) (w : Work) → In t s → Whole (w .image) → toClear t s ≡ true
       → reading (clearSector kind toClear t s w) t s ≡ good (replicate 256 0)
-  unfolding clearSector cleared
+  unfolding clearSector atTurn
   turn-blank t s w i g f =
       rw f
       (pick-ind (λ (v : Work). reading v t s ≡ good (replicate 256 0)) (hasData (reading w t s)) _ _
@@ -110,6 +113,22 @@ module _ (kind : Kind) (Whole : List ℕ → Type 0) (In : ℕ → ℕ → Type 
       go (yes e) r = rw e (turn-blank t k before (all k (omega arith)) ready (rw e at f))
       go (no n) r = turn-kept t k t s′ before (all k (omega arith)) (all s′ l) ready (λ p q. absurd (n (sym q))) ∙ r (omega arith)
 
+  -- each sector is at its turn as it was before; `had` says of each whether it is free and had data
+  sectors-data : (had : ℕ → ℕ → Bool) (t k : ℕ) (w : Work) → ((s : ℕ) → s < k → In t s) → Whole (w .image)
+      → ((s : ℕ) → s < k → had t s ≡ toClear t s && hasData (reading w t s))
+      → sectorsDone kind toClear t k w .changed ≡ w .changed + countOn had t k
+  unfolding sectorsDone countOn
+  sectors-data had t zero w all g agree = omega arith
+  sectors-data had t (suc k) w all g agree =
+      let before = sectorsDone kind toClear t k w in
+      let same : reading before t k ≡ reading w t k
+      = sectors-kept t k t k w (λ s l. all s (omega arith)) (all k (omega arith)) g (λ s l p q. (let v = q in absurd (omega arith))) in
+      let h : had t k ≡ toClear t k && hasData (reading before t k)
+      = agree k (omega arith) ∙ ap (λ (x : Sector). toClear t k && hasData x) (sym same) in
+      let c = turn-exact kind sectors toClear t k before in
+      let e = sectors-data had t k w (λ s l. all s (omega arith)) g (λ s l. agree s (omega arith)) in
+      rw h (omega arith)
+
   module _ (all : (t s : ℕ) → 0 < t → t ≤ last → s < sectors t → In t s) where
     pub whole-tracks : (k : ℕ) (w : Work) → k ≤ last → Whole (w .image) → Whole (tracksDone kind sectors toClear k w .image)
     whole-tracks k w l g =
@@ -145,3 +164,17 @@ module _ (kind : Kind) (Whole : List ℕ → Type 0) (In : ℕ → ℕ → Type 
             sectors-kept (suc k) (sectors (suc k)) t′ s′ before (λ s q. all (suc k) s (omega arith) l q) (all t′ s′ p (omega arith) b) ready
             (λ s q d z. absurd (n (sym d)))
             ∙ r (omega arith)
+
+    pub tracks-data : (k : ℕ) (w : Work) → k ≤ last → Whole (w .image)
+        → tracksDone kind sectors toClear k w .changed
+        ≡ w .changed + countTo sectors (λ t s. toClear t s && hasData (reading w t s)) k
+    unfolding tracksDone countTo
+    tracks-data zero w l g = omega arith
+    tracks-data (suc k) w l g =
+        let before = tracksDone kind sectors toClear k w in
+        let e = tracks-data k w (omega arith) g in
+        let d = sectors-data (λ t s. toClear t s && hasData (reading w t s)) (suc k) (sectors (suc k)) before
+        (λ s b. all (suc k) s (omega arith) l b) (whole-tracks k w (omega arith) g)
+        (λ s b. ap (λ (x : Sector). toClear (suc k) s && hasData x)
+        (sym (tracks-kept k (suc k) s w (omega arith) (all (suc k) s (omega arith) l b) g (λ h. absurd (omega arith))))) in
+        omega arith

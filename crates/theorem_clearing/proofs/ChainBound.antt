@@ -12,11 +12,10 @@ use native.Mathlib.Omega.{arith}
 use lib.ListN.{length}
 use lib.Seq.{getD-set-same}
 use Rattle.base.specs.Choice.{pick}
-use Rattle.geometry.specs.Zones.{zoneOf, sectorsIn, sectorsOf}
-use Rattle.reclaim_directory.specs.Marks.{noMarks, markPlace, marked, mark}
-use Rattle.reclaim_directory.specs.Disk.{Disk}
-use Rattle.reclaim_directory.specs.Chains.{Reader}
-use Rattle.theorem_clearing.specs.Links.{Address, next, linked, IsChain}
+use Rattle.geometry.specs.Zones.{zoneOf, sectorsIn}
+use Rattle.reclaim_directory.specs.Marks.{markPlace, marked, mark}
+use Rattle.reclaim_directory.specs.Disk.{Reader, Address, Disk, disk1541, marksAtFirst}
+use Rattle.theorem_clearing.specs.Links.{next, linked, IsChain}
 use Rattle.reclaim_directory.proofs.MarkLaws.{set-only, Fits, address-facts, place-in, fits-set}
 use Rattle.theorem_clearing.proofs.ChainLaws.{rest}
 
@@ -108,10 +107,10 @@ chain-bound disk read (suc d) m a w c =
     omega arith
 
 -- on 35 tracks, and on 42
-pub at-most-682 : openTo sectorsOf (mark noMarks 18 0) 35 ≡ 682
+pub at-most-682 : openTo (disk1541 .sectors) (marksAtFirst disk1541) 35 ≡ 682
 unfolding openTo openOn markPlace sectorsIn zoneOf
 at-most-682 = refl
 
-pub at-most-801 : openTo sectorsOf (mark noMarks 18 0) 42 ≡ 801
+pub at-most-801 : openTo (disk1541 .sectors) (marksAtFirst disk1541) 42 ≡ 801
 unfolding openTo openOn markPlace sectorsIn zoneOf
 at-most-801 = refl

@@ -19,9 +19,9 @@ use Rattle.base.specs.Choice.{pick}
 use Rattle.base.specs.declared.Sector.{Sector}
 use Rattle.reclaim_directory.specs.declared.Chain.{Chain}
 use Rattle.reclaim_directory.specs.Marks.{markPlace, marked, mark, unmarked}
-use Rattle.reclaim_directory.specs.Disk.{Disk, isAddress}
-use Rattle.reclaim_directory.specs.Chains.{Reader, ended, brokenChain, nextTrack, nextSector, maygo, chainFrom, chainAt}
-use Rattle.theorem_clearing.specs.Links.{Address, next, linked, placeOf, IsChain, Keeps}
+use Rattle.reclaim_directory.specs.Disk.{Reader, Address, address, Disk, isAddress}
+use Rattle.reclaim_directory.specs.Chains.{ended, brokenChain, nextTrack, nextSector, maygo, chainFrom, chainAt}
+use Rattle.theorem_clearing.specs.Links.{next, linked, markOf, IsChain, Keeps}
 use Rattle.base.proofs.Picks.{pick-ind, picks, and-left, and-right}
 use Rattle.reclaim_directory.proofs.MarkLaws.{unmarked-set, set-old, set-only, Fits, address-facts, place-in, fits-set}
 
@@ -54,14 +54,11 @@ module _ (disk : Disk) (read : Reader) where
       (suc-inj (sym (unmarked-set m (markPlace t s) (place-in disk m t s w (f .0)) (f .1)) ∙ e)) (fits-set disk m (markPlace t s) w)))
       (λ _. refl))
 
-  abbrev from : ℕ → ℕ → Address
-  from t s = record { track = t; sector = s }
-
   -- a chain that is not refused has a length, and is the chain of the links
   abbrev Ended : List Bool → ℕ → ℕ → ℕ → Chain → Type 0
-  Ended m n t s c = c .ok ≡ true → (d : ℕ) × (c .length ≡ n + d) × IsChain disk read m (from t s) d × Keeps read m (from t s) d (c .marks)
+  Ended m n t s c = c .ok ≡ true → (d : ℕ) × (c .length ≡ n + d) × IsChain disk read m (address t s) d × Keeps read m (address t s) d (c .marks)
 
-  broken : (m : List Bool) (n t s : ℕ) → Ended m n t s brokenChain
+  broken : (m : List Bool) (n t s : ℕ) → Ended m n t s (brokenChain (disk .marks))
   unfolding brokenChain
   broken m n t s e = absurd (true≢false (sym e))
 
@@ -82,8 +79,8 @@ module _ (disk : Disk) (read : Reader) where
 
   -- one sector more, in front
   module _ (m : List Bool) (t s : ℕ) (w : Fits disk m) (v : isAddress disk t s ≡ true) (u : marked m t s ≡ false) (r : read t s .ok ≡ true)
-      (d : ℕ) (after : List Bool) (c : IsChain disk read (mark m t s) (next read (from t s)) d)
-      (k : Keeps read (mark m t s) (next read (from t s)) d after) where
+      (d : ℕ) (after : List Bool) (c : IsChain disk read (mark m t s) (next read (address t s)) d)
+      (k : Keeps read (mark m t s) (next read (address t s)) d after) where
     here : markPlace t s < length m
     here = place-in disk m t s w v
 
@@ -98,22 +95,22 @@ module _ (disk : Disk) (read : Reader) where
         go false q = refl
         go true q = absurd (true≢false (sym (set-old m (markPlace t s) p here q) ∙ e))
 
-    valid′ : (k : ℕ) → k < suc d → isAddress disk (linked read (from t s) k .track) (linked read (from t s) k .sector) ≡ true
+    valid′ : (k : ℕ) → k < suc d → isAddress disk (linked read (address t s) k .track) (linked read (address t s) k .sector) ≡ true
     unfolding linked
     valid′ zero h = v
     valid′ (suc k) h = c .valid k (le-of-suc-le-suc h)
 
-    readable′ : (k : ℕ) → k < suc d → read (linked read (from t s) k .track) (linked read (from t s) k .sector) .ok ≡ true
+    readable′ : (k : ℕ) → k < suc d → read (linked read (address t s) k .track) (linked read (address t s) k .sector) .ok ≡ true
     unfolding linked
     readable′ zero h = r
     readable′ (suc k) h = c .readable k (le-of-suc-le-suc h)
 
-    fresh′ : (k : ℕ) → k < suc d → marked m (linked read (from t s) k .track) (linked read (from t s) k .sector) ≡ false
+    fresh′ : (k : ℕ) → k < suc d → marked m (linked read (address t s) k .track) (linked read (address t s) k .sector) ≡ false
     unfolding linked
     fresh′ zero h = u
     fresh′ (suc k) h = earlier _ (c .fresh k (le-of-suc-le-suc h))
 
-    no-repeat′ : (j k : ℕ) → j < k → k < suc d → placeOf (linked read (from t s) j) ≢ placeOf (linked read (from t s) k)
+    no-repeat′ : (j k : ℕ) → j < k → k < suc d → markOf (linked read (address t s) j) ≢ markOf (linked read (address t s) k)
     unfolding linked
     no-repeat′ j zero l h e = absurd (not-suc-le-zero l)
     no-repeat′ zero (suc k) l h e =
@@ -123,13 +120,13 @@ module _ (disk : Disk) (read : Reader) where
     old′ : (t′ s′ : ℕ) → marked m t′ s′ ≡ true → marked after t′ s′ ≡ true
     old′ t′ s′ h = k .old t′ s′ (set-old m (markPlace t s) (markPlace t′ s′) here h)
 
-    new′ : (j : ℕ) → j < suc d → marked after (linked read (from t s) j .track) (linked read (from t s) j .sector) ≡ true
+    new′ : (j : ℕ) → j < suc d → marked after (linked read (address t s) j .track) (linked read (address t s) j .sector) ≡ true
     unfolding linked
     new′ zero h = k .old t s set-now
     new′ (suc j) h = k .new j (le-of-suc-le-suc h)
 
     only′ : (t′ s′ : ℕ) → marked after t′ s′ ≡ true
-        → (marked m t′ s′ ≡ true) ⊎ ((k : ℕ) × (k < suc d) × (markPlace t′ s′ ≡ placeOf (linked read (from t s) k)))
+        → (marked m t′ s′ ≡ true) ⊎ ((k : ℕ) × (k < suc d) × (markPlace t′ s′ ≡ markOf (linked read (address t s) k)))
     unfolding linked
     only′ t′ s′ h =
         ⊎-elim
@@ -140,11 +137,11 @@ module _ (disk : Disk) (read : Reader) where
         (λ o. inr (suc (o .0), (let l = o .1 in omega arith), o .2))
         (k .only t′ s′ h)
 
-    pub longer : IsChain disk read m (from t s) (suc d)
+    pub longer : IsChain disk read m (address t s) (suc d)
     unfolding linked
     longer = record { ends = c .ends; valid = valid′; readable = readable′; fresh = fresh′; no-repeat = no-repeat′ }
 
-    pub keeps : Keeps read m (from t s) (suc d) after
+    pub keeps : Keeps read m (address t s) (suc d) after
     keeps = record { old = old′; new = new′; only = only′ }
 
   pub followed : (left : ℕ) (m : List Bool) (n t s : ℕ) → Fits disk m → Ended m n t s (chainFrom left disk read m n t s)
@@ -166,17 +163,17 @@ module _ (disk : Disk) (read : Reader) where
   not-zero : (t s : ℕ) → isAddress disk t s ≡ true → eqb t 0 ≡ false
   not-zero t s e = let a = address-facts disk t s e in ne-eqb t 0 (λ z. let l : 0 < t = a .0 in omega arith)
 
-  module _ (m : List Bool) (t s d : ℕ) (c : IsChain disk read m (from t s) (suc d)) where
+  module _ (m : List Bool) (t s d : ℕ) (c : IsChain disk read m (address t s) (suc d)) where
     rest-fresh : (k : ℕ) → k < d
-        → marked (mark m t s) (linked read (next read (from t s)) k .track) (linked read (next read (from t s)) k .sector) ≡ false
+        → marked (mark m t s) (linked read (next read (address t s)) k .track) (linked read (next read (address t s)) k .sector) ≡ false
     unfolding linked
     rest-fresh k h =
         let l : suc k < suc d = omega arith in
         let p : 0 < suc k = omega arith in
-        set-only m (markPlace t s) (placeOf (linked read (next read (from t s)) k)) (λ e. c .no-repeat 0 (suc k) p l (sym e))
+        set-only m (markPlace t s) (markOf (linked read (next read (address t s)) k)) (λ e. c .no-repeat 0 (suc k) p l (sym e))
         ∙ c .fresh (suc k) l
 
-    pub rest : IsChain disk read (mark m t s) (next read (from t s)) d
+    pub rest : IsChain disk read (mark m t s) (next read (address t s)) d
     unfolding linked
     rest =
         record {
@@ -191,7 +188,7 @@ module _ (disk : Disk) (read : Reader) where
     unfolding linked
     goes = let z : 0 < suc d = omega arith in rw (c .valid 0 z, c .fresh 0 z, c .readable 0 z)
 
-  found-from : (d left : ℕ) (m : List Bool) (n t s : ℕ) → d < left → IsChain disk read m (from t s) d
+  found-from : (d left : ℕ) (m : List Bool) (n t s : ℕ) → d < left → IsChain disk read m (address t s) d
       → (chainFrom left disk read m n t s .ok ≡ true) × (chainFrom left disk read m n t s .length ≡ n + d)
   unfolding chainFrom linked
   found-from d zero m n t s l c = absurd (not-suc-le-zero l)
@@ -201,15 +198,15 @@ module _ (disk : Disk) (read : Reader) where
       let h = found-from d left (mark m t s) (n + 1) (nextTrack (read t s)) (nextSector (read t s)) (le-of-suc-le-suc l) (rest m t s d c) in
       rw (z, goes m t s d c) (h .0, h .1 ∙ omega arith)
 
-  pub found : (d : ℕ) (m : List Bool) (n t s : ℕ) → Fits disk m → IsChain disk read m (from t s) d
+  pub found : (d : ℕ) (m : List Bool) (n t s : ℕ) → Fits disk m → IsChain disk read m (address t s) d
       → (chainAt disk read m n t s .ok ≡ true) × (chainAt disk read m n t s .length ≡ n + d)
   found d m n t s w c =
       let l : d < suc (unmarked m + d) = omega arith in
       rw (sym (enough d (unmarked m) m n t s refl w)) (found-from d (suc (unmarked m + d)) m n t s l c)
 
-pub broken-off : brokenChain .ok ≡ true → ⊥
+pub broken-off : (n : ℕ) → brokenChain n .ok ≡ true → ⊥
 unfolding brokenChain
-broken-off e = true≢false (sym e)
+broken-off n e = true≢false (sym e)
 
 -- two readers that agree on the sectors that the chain marks find the same chain
 module _ (disk : Disk) (read read′ : Reader) where
@@ -230,6 +227,9 @@ module _ (disk : Disk) (read read′ : Reader) where
       onward : Reader → Reader → Chain
       onward r q = chainFrom left disk q (mark m t s) (n + 1) (nextTrack (r t s)) (nextSector (r t s))
 
+      none : Chain
+      none = brokenChain (disk .marks)
+
       -- the sector at hand is marked at the end
       at-hand : maygo disk read m t s ≡ true → onward read read .ok ≡ true → Agree (onward read read) → read t s ≡ read′ t s
       at-hand g o agree =
@@ -241,20 +241,20 @@ module _ (disk : Disk) (read read′ : Reader) where
       Later : Type 0
       Later = onward read read .ok ≡ true → Agree (onward read read) → onward read read′ ≡ onward read read
 
-      go2 : Later → (b : Bool) → maygo disk read m t s ≡ b → pick b (onward read read) brokenChain .ok ≡ true
-          → Agree (pick b (onward read read) brokenChain)
-          → pick (maygo disk read′ m t s) (onward read′ read′) brokenChain ≡ pick b (onward read read) brokenChain
+      go2 : Later → (b : Bool) → maygo disk read m t s ≡ b → pick b (onward read read) none .ok ≡ true
+          → Agree (pick b (onward read read) none)
+          → pick (maygo disk read′ m t s) (onward read′ read′) none ≡ pick b (onward read read) none
       go2 later true g o agree =
           let e : read t s ≡ read′ t s = at-hand g o agree in
           let h : maygo disk read′ m t s ≡ true
           = subst (λ (x : Sector). (isAddress disk t s && (not (marked m t s) && x .ok)) ≡ true) e g in
           rw h (subst (λ (x : Sector). chainFrom left disk read′ (mark m t s) (n + 1) (nextTrack x) (nextSector x) ≡ onward read read) e
           (later o agree))
-      go2 later false g o agree = absurd (broken-off o)
+      go2 later false g o agree = absurd (broken-off (disk .marks) o)
 
-      go : Later → (b : Bool) → eqb t 0 ≡ b → pick b (ended n m) (pick (maygo disk read m t s) (onward read read) brokenChain) .ok ≡ true
-          → Agree (pick b (ended n m) (pick (maygo disk read m t s) (onward read read) brokenChain))
-          → pick b (ended n m) (pick (maygo disk read′ m t s) (onward read′ read′) brokenChain)
-          ≡ pick b (ended n m) (pick (maygo disk read m t s) (onward read read) brokenChain)
+      go : Later → (b : Bool) → eqb t 0 ≡ b → pick b (ended n m) (pick (maygo disk read m t s) (onward read read) none) .ok ≡ true
+          → Agree (pick b (ended n m) (pick (maygo disk read m t s) (onward read read) none))
+          → pick b (ended n m) (pick (maygo disk read′ m t s) (onward read′ read′) none)
+          ≡ pick b (ended n m) (pick (maygo disk read m t s) (onward read read) none)
       go later true z o agree = refl
       go later false z o agree = go2 later (maygo disk read m t s) refl o agree

@@ -1,43 +1,39 @@
--- Clearing a D64 image.
+-- Clearing a D64 image, for every disk whose sectors lie in the image as a 1541's do.
 --     sectors-cleared   each free sector is zeros afterwards, and everything else is as it was
---     twice             clearing once more changes nothing, and answers the same free count
-use mathlib.Core.Path.{_≡_, refl, sym, ap, _∙_, subst}
-use mathlib.Core.Bool.{Bool, true, false, and-false}
+--     counted           both counts, exactly
+--     again             clearing once more changes nothing, and answers the same free count
+use mathlib.Core.Path.{_≡_, refl, sym, ap, ap₂, _∙_, subst}
+use mathlib.Core.Bool.{Bool, true, false, _&&_, not, and-false}
 use mathlib.Core.List.{List}
-use Prim.Native.Nat.{ℕ, suc, _*_, _≤_, _<_}
+use Prim.Native.Nat.{ℕ, suc, _+_, _*_, _≤_, _<_}
 use native.Mathlib.Omega.{arith}
-use lib.ListN.{length, getD, drop, replicate, length-set}
+use lib.ListN.{length, drop, replicate}
 use Rattle.base.specs.Choice.{pick}
-use Rattle.base.specs.Refusals.{wrongImage, wrongLink}
-use Rattle.geometry.specs.declared.TrackCount.{TrackCount}
-use Rattle.geometry.specs.declared.TrackCount.the-variants.{Tracks, NoD64}
+use Rattle.base.specs.Refusals.{wrongLink}
 use Rattle.geometry.specs.Zones.{sectorsOf}
-use Rattle.geometry.specs.D64.{sectorsTo, d64Place, tracksOf}
-use Rattle.geometry.proofs.ZoneLaws.{sectors-of}
-use Rattle.geometry.proofs.D64Laws.{d64-facts}
+use Rattle.geometry.specs.D64.{sectorsTo}
 use Rattle.base.specs.declared.Sector.{Sector}
 use Rattle.base.specs.Bytes.{anyNonzero}
 use Rattle.base.specs.Sectors.{good}
-use Rattle.image.specs.D64.{blockAt, d64Sector, d64Zeroed, OnTracks}
+use Rattle.image.specs.D64.{d64Sector, d64Zeroed, OnTracks}
 use Rattle.image.proofs.D64Sectors.{sector-reads, block-length, zeroed-length, zeroed-behind, zeroed-reads, other-reads}
-use Rattle.reclaim_directory.specs.declared.Chain.{Chain}
-use Rattle.reclaim.specs.declared.Outcome.the-variants.{Cleared}
-use Rattle.reclaim_directory.specs.Marks.{noMarks, markPlace, marked, mark, unmarked}
-use Rattle.reclaim_directory.specs.Disk.{Disk, isAddress, bamFree, disk1541, isFree}
-use Rattle.reclaim_directory.specs.Chains.{Reader, brokenChain, chainAt, chainOf}
-use Rattle.reclaim.specs.Clearing.{Work, hasData, tracksDone, untouched, Answer, refuse, finish, withChain, withBam}
-use Rattle.reclaim.specs.Counting.{freeTracks}
 use Rattle.image_sector.specs.Kinds.{d64Kind}
-use Rattle.reclaim.specs.Images.{byTracks, clearedD64}
-use Rattle.theorem_clearing.specs.Meaning.{SectorsCleared, onceMore}
+use Rattle.reclaim_directory.specs.declared.Chain.{Chain}
+use Rattle.reclaim_directory.specs.Marks.{marked, unmarked}
+use Rattle.reclaim_directory.specs.Disk.{Reader, Disk, bamSector, isAddress, marksAtFirst, toClear}
+use Rattle.reclaim_directory.specs.Chains.{brokenChain, nextTrack, nextSector, chainAt, chainOf}
+use Rattle.reclaim.specs.declared.Outcome.the-variants.{Cleared}
+use Rattle.reclaim.specs.Clearing.{Work, hasData, tracksDone, untouched, Answer, refuse, finish, freeOn, clearing}
+use Rattle.reclaim.specs.Counting.{countTo}
+use Rattle.theorem_clearing.specs.Meaning.{SectorsCleared, freeCount, dataCount, onceMore}
 use Rattle.base.proofs.Picks.{by-test}
 use Rattle.reclaim_directory.proofs.MarkLaws.{Fits, address-facts}
-use Rattle.theorem_clearing.proofs.ChainLaws.{followed, same-from, broken-off}
 use Rattle.reclaim.proofs.Counted.{tracks-counted, tracks-hold, tracks-quiet}
-use Rattle.theorem_clearing.proofs.Apart.{LieApart, tracks-kept, tracks-blank}
+use Rattle.theorem_clearing.proofs.ChainLaws.{followed, same-from, broken-off}
+use Rattle.theorem_clearing.proofs.Apart.{LieApart, tracks-kept, tracks-blank, tracks-data}
 
 -- an image that has the sectors of n tracks
-abbrev Large : ℕ → List ℕ → Type 0
+abbrev pub Large : ℕ → List ℕ → Type 0
 Large n image = sectorsTo n * 256 ≤ length image
 
 -- its sectors lie apart
@@ -51,206 +47,206 @@ d64-apart n =
       other = λ t s t′ s′ image i i′ ne g. other-reads n image g t s i t′ s′ i′ ne;
     }
 
--- what clearing the tracks does, with any marks
-module _ (n : ℕ) (more : 35 ≤ n) (toClear : ℕ → ℕ → Bool) (image : List ℕ) (large : Large n image) where
-  abbrev done : List ℕ
-  done = tracksDone d64Kind sectorsOf toClear 35 (untouched image) .image
+-- a disk in a D64 image: tracks of as many sectors as a 1541's; 18/0, and whatever else the BAM is read from, is kept
+pub record InD64 (disk : Disk) : Type 0 where
+  pub sectors : (t : ℕ) → disk .sectors t ≡ sectorsOf t
+  pub last-there : disk .last ≤ disk .highest
+  pub fits : Fits disk (marksAtFirst disk)
+  pub first-there : isAddress disk 18 0 ≡ true
+  pub first-kept : marked (marksAtFirst disk) 18 0 ≡ true
+  pub bam-kept : (read read′ : Reader)
+      → ((t s : ℕ) → isAddress disk t s ≡ true → marked (marksAtFirst disk) t s ≡ true → read t s ≡ read′ t s)
+      → disk .free read ≡ disk .free read′
 
-  all : (t s : ℕ) → 0 < t → t ≤ 35 → s < sectorsOf t → OnTracks n t s
-  all t s p h b = record { some = p; highest = omega arith; below = b }
+-- what clearing the tracks does, with any test
+module _ (disk : Disk) (laws : InD64 disk) (free : ℕ → ℕ → Bool) (image : List ℕ) (large : Large (disk .highest) image) where
+  abbrev after : Work
+  after = tracksDone d64Kind (disk .sectors) free (disk .last) (untouched image)
+
+  all : (t s : ℕ) → 0 < t → t ≤ disk .last → s < disk .sectors t → OnTracks (disk .highest) t s
+  all t s p h b = record { some = p; highest = omega (arith, laws .last-there, h); below = omega (arith, b, laws .sectors t) }
 
   Tail : List ℕ → Type 0
-  Tail l = Large n l × (length l ≡ length image) × (drop (sectorsTo 35 * 256) l ≡ drop (sectorsTo 35 * 256) image)
+  Tail l =
+      Large (disk .highest) l × (length l ≡ length image)
+      × (drop (sectorsTo (disk .last) * 256) l ≡ drop (sectorsTo (disk .last) * 256) image)
 
-  tail-stays : (t s : ℕ) → 0 < t → t ≤ 35 → s < sectorsOf t → (l : List ℕ) → Tail l → Tail (d64Zeroed t s l)
+  tail-stays : (t s : ℕ) → 0 < t → t ≤ disk .last → s < disk .sectors t → (l : List ℕ) → Tail l → Tail (d64Zeroed t s l)
   unfolding Tail
   tail-stays t s p h b l g =
       let i = all t s p h b in
-      let e = zeroed-length n l (g .0) t s i in
-      (subst (λ (m : ℕ). sectorsTo n * 256 ≤ m) (sym e) (g .0), e ∙ g .1, zeroed-behind n l (g .0) 35 t s i h ∙ g .2)
+      let e = zeroed-length (disk .highest) l (g .0) t s i in (
+        subst (λ (m : ℕ). sectorsTo (disk .highest) * 256 ≤ m) (sym e) (g .0),
+        e ∙ g .1,
+        zeroed-behind (disk .highest) l (g .0) (disk .last) t s i h ∙ g .2,
+      )
 
-  tail-kept : Tail done
+  tail-kept : Tail (after .image)
   unfolding Tail
-  tail-kept = tracks-hold d64Kind sectorsOf toClear Tail 35 (untouched image) tail-stays (large, refl, refl)
+  tail-kept = tracks-hold d64Kind (disk .sectors) free Tail (disk .last) (untouched image) tail-stays (large, refl, refl)
 
-  pub kept : (t s : ℕ) → OnTracks n t s → (t ≤ 35 → toClear t s ≡ false) → d64Sector done t s ≡ d64Sector image t s
+  kept : (t s : ℕ) → OnTracks (disk .highest) t s → (t ≤ disk .last → free t s ≡ false)
+      → d64Sector (after .image) t s ≡ d64Sector image t s
   kept t s i busy =
-      tracks-kept d64Kind (Large n) (OnTracks n) (d64-apart n) sectorsOf 35 toClear all 35 t s (untouched image) (omega arith) i large
-      busy
+      tracks-kept d64Kind (Large (disk .highest)) (OnTracks (disk .highest)) (d64-apart (disk .highest)) (disk .sectors) (disk .last) free
+      all (disk .last) t s (untouched image) (omega arith) i large busy
 
-  pub zeros : (t s : ℕ) → OnTracks 35 t s → toClear t s ≡ true → d64Sector done t s ≡ good (replicate 256 0)
+  zeros : (t s : ℕ) → OnTracks (disk .last) t s → free t s ≡ true → d64Sector (after .image) t s ≡ good (replicate 256 0)
   zeros t s i f =
-      tracks-blank d64Kind (Large n) (OnTracks n) (d64-apart n) sectorsOf 35 toClear all 35 t s (untouched image) (omega arith) (i .some)
-      (i .highest) (i .below) large f
+      tracks-blank d64Kind (Large (disk .highest)) (OnTracks (disk .highest)) (d64-apart (disk .highest)) (disk .sectors) (disk .last) free
+      all (disk .last) t s (untouched image) (omega arith) (i .some) (i .highest) (omega (arith, i .below, laws .sectors t)) large f
 
-  pub sectors-cleared : SectorsCleared toClear n image done
+  pub sectors-cleared : SectorsCleared disk free image (after .image)
   unfolding Tail
   sectors-cleared = record { same-length = tail-kept .1; zeros = zeros; kept = kept; behind = tail-kept .2 }
 
--- ---- once more
-fits1541 : (n : ℕ) → n ≤ 42 → Fits (disk1541 n) (mark noMarks 18 0)
-fits1541 n h =
-    let l : length (mark noMarks 18 0) ≡ 882 = simp length-set in
-    record { sectors = λ t. sectors-of t .1; tracks = omega arith }
+  pub free-counted : after .free ≡ countTo (disk .sectors) free (disk .last)
+  free-counted = tracks-counted d64Kind (disk .sectors) free (disk .last) (untouched image) ∙ omega arith
 
-bam-marked : marked (mark noMarks 18 0) 18 0 ≡ true
-unfolding markPlace
-bam-marked = refl
+  pub data-counted : after .changed ≡ countTo (disk .sectors) (λ t s. free t s && hasData (d64Sector image t s)) (disk .last)
+  data-counted =
+      tracks-data d64Kind (Large (disk .highest)) (OnTracks (disk .highest)) (d64-apart (disk .highest)) (disk .sectors) (disk .last) free
+      all (disk .last) (untouched image) (omega arith) large
+      ∙ omega arith
 
-not-free : (free : ℕ → ℕ → Bool) (marks : List Bool) (t s : ℕ) → marked marks t s ≡ true → isFree free marks t s ≡ false
-not-free free marks t s e = rw e (and-false (free t s))
+-- ---- the chain
+module _ (disk : Disk) (read : Reader) (o : chainOf disk read .ok ≡ true) where
+  abbrev first : Sector
+  first = bamSector read
 
--- a chain that is found was found from a valid address
-module _ (disk : Disk) (read : Reader) (bam : List ℕ) (o : chainOf disk read bam .ok ≡ true) where
-  at-first : isAddress disk (getD bam 0 0) (getD bam 1 0) ≡ true
+  -- a chain that is found was found from a valid address
+  at-first : isAddress disk (nextTrack first) (nextSector first) ≡ true
   unfolding chainOf
-  at-first = go (isAddress disk (getD bam 0 0) (getD bam 1 0)) o
+  at-first = go (isAddress disk (nextTrack first) (nextSector first)) o
     where
-      go : (b : Bool) → pick b (chainAt disk read (disk .bamMarks) 0 (getD bam 0 0) (getD bam 1 0)) brokenChain .ok ≡ true → b ≡ true
+      go : (b : Bool)
+          → pick b (chainAt disk read (marksAtFirst disk) 0 (nextTrack first) (nextSector first)) (brokenChain (disk .marks)) .ok ≡ true
+          → b ≡ true
       go true e = refl
-      go false e = absurd (broken-off e)
+      go false e = absurd (broken-off (disk .marks) e)
 
-  pub as-links : chainOf disk read bam ≡ chainAt disk read (disk .bamMarks) 0 (getD bam 0 0) (getD bam 1 0)
+  as-links : chainOf disk read ≡ chainAt disk read (marksAtFirst disk) 0 (nextTrack first) (nextSector first)
   unfolding chainOf
   as-links = rw at-first
 
-  -- the BAM's sectors stay marked
-  pub old-marks : Fits disk (disk .bamMarks) → (t s : ℕ) → marked (disk .bamMarks) t s ≡ true
-      → marked (chainOf disk read bam .marks) t s ≡ true
+  -- what was marked at first stays marked
+  pub old-marks : Fits disk (marksAtFirst disk) → (t s : ℕ) → marked (marksAtFirst disk) t s ≡ true
+      → marked (chainOf disk read .marks) t s ≡ true
   old-marks w t s h =
-      let k = followed disk read (suc (unmarked (disk .bamMarks))) (disk .bamMarks) 0 (getD bam 0 0) (getD bam 1 0) w (rw as-links at o) in
+      let k = followed disk read (suc (unmarked (marksAtFirst disk))) (marksAtFirst disk) 0 (nextTrack first) (nextSector first) w
+      (rw as-links at o) in
       rw as-links (k .3 .old t s h)
 
   -- a reader that agrees on what is marked finds the same
-  pub same-chain : (read′ : Reader) → Fits disk (disk .bamMarks)
-      → ((t s : ℕ) → isAddress disk t s ≡ true → marked (chainOf disk read bam .marks) t s ≡ true → read t s ≡ read′ t s)
-      → chainOf disk read′ bam ≡ chainOf disk read bam
+  pub same-chain : (read′ : Reader) → Fits disk (marksAtFirst disk) → read 18 0 ≡ read′ 18 0
+      → ((t s : ℕ) → isAddress disk t s ≡ true → marked (chainOf disk read .marks) t s ≡ true → read t s ≡ read′ t s)
+      → chainOf disk read′ ≡ chainOf disk read
   unfolding chainOf
-  same-chain read′ w agree =
-      rw at-first
-      (same-from disk read read′ (suc (unmarked (disk .bamMarks))) (disk .bamMarks) 0 (getD bam 0 0) (getD bam 1 0) w (rw at-first at o)
-      (rw at-first at agree))
+  same-chain read′ w b agree =
+      rw (← b, at-first)
+      (same-from disk read read′ (suc (unmarked (marksAtFirst disk))) (marksAtFirst disk) 0 (nextTrack first) (nextSector first) w
+      (rw at-first at o) (rw at-first at agree))
 
 zeros-quiet : hasData (good (replicate 256 0)) ≡ false
 unfolding anyNonzero
 zeros-quiet = refl
 
--- an image whose size is a D64's
-module _ (image : List ℕ) (n : ℕ) (size : tracksOf (length image) ≡ Tracks n) where
-  facts : (35 ≤ n) × (n ≤ 42) × (sectorsTo n * 256 ≤ length image)
-  facts = d64-facts (length image) n size
+-- ---- a D64 image
+module _ (disk : Disk) (laws : InD64 disk) where
+  on-tracks : (t s : ℕ) → isAddress disk t s ≡ true → OnTracks (disk .highest) t s
+  on-tracks t s a =
+      let f = address-facts disk t s a in record { some = f .0; highest = f .1; below = omega (arith, f .2, laws .sectors t) }
 
-  bam-on : OnTracks n 18 0
-  bam-on = let f = facts in record { some = omega arith; highest = omega arith; below = omega (arith, sectors-of 18 .0) }
+  module _ (image : List ℕ) (large : Large (disk .highest) image) where
+    bam-reads : bamSector (d64Sector image) .ok ≡ true
+    bam-reads = ap (λ (x : Sector). x .ok) (sector-reads (disk .highest) image large 18 0 (on-tracks 18 0 (laws .first-there)))
 
-  abbrev pub bamOf : List ℕ
-  bamOf = blockAt image (d64Place 18 0)
+    pub refused-chain : chainOf disk (d64Sector image) .ok ≡ false → clearing d64Kind disk image ≡ refuse image wrongLink
+    unfolding clearing
+    refused-chain o = rw (bam-reads, o)
 
-  abbrev pub diskOf : Disk
-  diskOf = disk1541 n
+    pub cleared-once : chainOf disk (d64Sector image) .ok ≡ true
+        → clearing d64Kind disk image ≡ finish (after disk laws (freeOn disk (d64Sector image)) image large)
+    unfolding clearing
+    cleared-once o = rw (bam-reads, o)
 
-  abbrev pub chainIn : Chain
-  chainIn = chainOf diskOf (d64Sector image) bamOf
+-- one that is not refused
+module _ (disk : Disk) (laws : InD64 disk) (image : List ℕ) (large : Large (disk .highest) image)
+    (o : chainOf disk (d64Sector image) .ok ≡ true) where
+  abbrev free : ℕ → ℕ → Bool
+  free = freeOn disk (d64Sector image)
 
-  first-read : d64Sector image 18 0 ≡ good bamOf
-  first-read = sector-reads n image (facts .2) 18 0 bam-on
+  abbrev work : Work
+  work = after disk laws free image large
 
-  -- the answer is the chain's
-  pub by-chain : clearedD64 image ≡ withChain d64Kind diskOf (bamFree bamOf) image chainIn
-  unfolding clearedD64 byTracks withBam
-  by-chain = rw (size, first-read)
+  pub only-free : SectorsCleared disk free image (clearing d64Kind disk image .image)
+  only-free =
+      subst (λ (a : Answer). SectorsCleared disk free image (a .image)) (sym (cleared-once disk laws image large o))
+      (sectors-cleared disk laws free image large)
 
-  refused-chain : chainIn .ok ≡ false → clearedD64 image ≡ refuse image wrongLink
-  unfolding withChain
-  refused-chain o = by-chain ∙ rw o
+  pub counted : clearing d64Kind disk image .outcome ≡ Cleared (freeCount disk (d64Sector image)) (dataCount disk (d64Sector image))
+  counted =
+      ap (λ (a : Answer). a .outcome) (cleared-once disk laws image large o)
+      ∙ ap₂ Cleared (free-counted disk laws free image large) (data-counted disk laws free image large)
 
-  module _ (o : chainIn .ok ≡ true) where
-    abbrev marksOf : List Bool
-    marksOf = chainIn .marks
+  -- ---- once more: what is kept reads as before, so the chain and the BAM are the same
+  same-read : (t s : ℕ) → isAddress disk t s ≡ true → marked (chainOf disk (d64Sector image) .marks) t s ≡ true
+      → d64Sector image t s ≡ d64Sector (work .image) t s
+  same-read t s a m =
+      sym (kept disk laws free image large t s (on-tracks disk laws t s a) (λ _. rw m (and-false (disk .free (d64Sector image) t s))))
 
-    abbrev firstWork : Work
-    firstWork = tracksDone d64Kind sectorsOf (isFree (bamFree bamOf) marksOf) 35 (untouched image)
+  kept-read : (t s : ℕ) → isAddress disk t s ≡ true → marked (marksAtFirst disk) t s ≡ true
+      → d64Sector image t s ≡ d64Sector (work .image) t s
+  kept-read t s a m = same-read t s a (old-marks disk (d64Sector image) o (laws .fits) t s m)
 
-    pub cleared-once : clearedD64 image ≡ finish firstWork
-    unfolding withChain
-    cleared-once = by-chain ∙ rw o
+  large-still : Large (disk .highest) (work .image)
+  large-still = omega (arith, large, sectors-cleared disk laws free image large .same-length)
 
-    -- each free sector is zeros afterwards, and everything else as it was
-    pub only-free : SectorsCleared (isFree (bamFree bamOf) marksOf) n image (firstWork .image)
-    only-free = sectors-cleared n (facts .0) (isFree (bamFree bamOf) marksOf) image (facts .2)
+  chain-still : chainOf disk (d64Sector (work .image)) ≡ chainOf disk (d64Sector image)
+  chain-still =
+      same-chain disk (d64Sector image) o (d64Sector (work .image)) (laws .fits) (kept-read 18 0 (laws .first-there) (laws .first-kept))
+      same-read
 
-    pub free-counted : firstWork .free ≡ freeTracks sectorsOf (isFree (bamFree bamOf) marksOf) 35
-    free-counted = tracks-counted d64Kind sectorsOf (isFree (bamFree bamOf) marksOf) 35 (untouched image) ∙ omega arith
+  free-still : freeOn disk (d64Sector (work .image)) ≡ free
+  free-still =
+      ap₂ (λ (test : ℕ → ℕ → Bool) (c : Chain). λ (t s : ℕ). test t s && not (marked (c .marks) t s))
+      (sym (laws .bam-kept (d64Sector image) (d64Sector (work .image)) kept-read)) chain-still
 
-    fits : Fits diskOf (diskOf .bamMarks)
-    fits = fits1541 n (facts .1)
+  quiet : (t s : ℕ) → 0 < t → t ≤ disk .last → s < disk .sectors t → free t s ≡ true → hasData (d64Sector (work .image) t s) ≡ false
+  quiet t s p h b f =
+      let i : OnTracks (disk .last) t s = record { some = p; highest = h; below = omega (arith, b, laws .sectors t) } in
+      ap hasData (zeros disk laws free image large t s i f) ∙ zeros-quiet
 
-    same-read : (t s : ℕ) → OnTracks n t s → marked marksOf t s ≡ true → d64Sector (firstWork .image) t s ≡ d64Sector image t s
-    same-read t s i m = only-free .kept t s i (λ _. not-free (bamFree bamOf) marksOf t s m)
+  abbrev second : Work
+  second = tracksDone d64Kind (disk .sectors) free (disk .last) (untouched (work .image))
 
-    bam-kept : marked marksOf 18 0 ≡ true
-    bam-kept = old-marks diskOf (d64Sector image) bamOf o fits 18 0 bam-marked
-
-    agree : (t s : ℕ) → isAddress diskOf t s ≡ true → marked marksOf t s ≡ true → d64Sector image t s ≡ d64Sector (firstWork .image) t s
-    agree t s a m =
-        let f = address-facts diskOf t s a in
-        sym (same-read t s (record { some = f .0; highest = f .1; below = f .2 }) m)
-
-    quiet : (t s : ℕ) → 0 < t → t ≤ 35 → s < sectorsOf t → isFree (bamFree bamOf) marksOf t s ≡ true
-        → hasData (d64Sector (firstWork .image) t s) ≡ false
-    quiet t s p h b f = ap hasData (only-free .zeros t s (record { some = p; highest = h; below = b }) f) ∙ zeros-quiet
-
--- the same of the image that clearing left
-module _ (image : List ℕ) (n : ℕ) (size : tracksOf (length image) ≡ Tracks n) (o : chainIn image n size .ok ≡ true) where
-  abbrev after : List ℕ
-  after = firstWork image n size o .image
-
-  abbrev disk0 : Disk
-  disk0 = diskOf image n size
-
-  abbrev free0 : ℕ → ℕ → Bool
-  free0 = isFree (bamFree (bamOf image n size)) (marksOf image n size o)
-
-  size′ : tracksOf (length after) ≡ Tracks n
-  size′ = ap tracksOf (only-free image n size o .same-length) ∙ size
-
-  same-bam : bamOf after n size′ ≡ bamOf image n size
-  same-bam =
-      ap (λ (x : Sector). x .bytes)
-      (sym (first-read after n size′) ∙ same-read image n size o 18 0 (bam-on image n size) (bam-kept image n size o)
-      ∙ first-read image n size)
-
-  cleared-again : clearedD64 after ≡ finish (tracksDone d64Kind sectorsOf free0 35 (untouched after))
-  unfolding withChain
+  cleared-again : clearing d64Kind disk (work .image) ≡ finish second
   cleared-again =
-      by-chain after n size′
-      ∙ ap (λ (bam : List ℕ). withChain d64Kind disk0 (bamFree bam) after (chainOf disk0 (d64Sector after) bam)) same-bam
-      ∙ ap (withChain d64Kind disk0 (bamFree (bamOf image n size)) after)
-      (same-chain disk0 (d64Sector image) (bamOf image n size) o (d64Sector after) (fits image n size o) (agree image n size o))
-      ∙ rw o
+      cleared-once disk laws (work .image) large-still (ap (λ (c : Chain). c .ok) chain-still ∙ o)
+      ∙ ap (λ (test : ℕ → ℕ → Bool). finish (tracksDone d64Kind (disk .sectors) test (disk .last) (untouched (work .image)))) free-still
 
-  again : clearedD64 after ≡ record { image = after; outcome = Cleared (firstWork image n size o .free) 0 }
+  again : clearing d64Kind disk (work .image) ≡ record { image = work .image; outcome = Cleared (work .free) 0 }
   again =
-      let q = tracks-quiet d64Kind sectorsOf free0 35 (untouched after) (quiet image n size o) in
-      let c : tracksDone d64Kind sectorsOf free0 35 (untouched after) .free ≡ firstWork image n size o .free
-      = tracks-counted d64Kind sectorsOf free0 35 (untouched after) ∙ sym (tracks-counted d64Kind sectorsOf free0 35 (untouched image)) in
+      let q = tracks-quiet d64Kind (disk .sectors) free (disk .last) (untouched (work .image)) quiet in
+      let c : second .free ≡ work .free
+      = tracks-counted d64Kind (disk .sectors) free (disk .last) (untouched (work .image))
+      ∙ sym (tracks-counted d64Kind (disk .sectors) free (disk .last) (untouched image)) in
       cleared-again ∙ rw (q .0, q .1, c)
 
+pub clearing-length : (disk : Disk) → InD64 disk → (image : List ℕ) → Large (disk .highest) image
+    → length (clearing d64Kind disk image .image) ≡ length image
+clearing-length disk laws image large =
+    by-test (length (clearing d64Kind disk image .image) ≡ length image) (chainOf disk (d64Sector image) .ok)
+    (λ o. only-free disk laws image large o .same-length)
+    (λ o. ap (λ (a : Answer). length (a .image)) (refused-chain disk laws image large o))
+
 -- clearing once more leaves the image, and answers the same free count and no change
-abbrev pub OnceMore : List ℕ → Answer → Type 0
-OnceMore image a = clearedD64 image ≡ a → clearedD64 (a .image) ≡ record { image = a .image; outcome = onceMore (a .outcome) }
+abbrev pub OnceMore : (List ℕ → Answer) → Answer → Type 0
+OnceMore clears a = clears (a .image) ≡ record { image = a .image; outcome = onceMore (a .outcome) }
 
-by-size : (image : List ℕ) (c : TrackCount) → tracksOf (length image) ≡ c → OnceMore image (clearedD64 image)
-unfolding clearedD64 byTracks
-by-size image NoD64 e = subst (OnceMore image) (sym known) (λ q. q)
-  where
-    known : clearedD64 image ≡ refuse image wrongImage
-    known = rw e
-by-size image (Tracks n) e =
-    by-test (OnceMore image (clearedD64 image)) (chainIn image n e .ok)
-    (λ o. subst (OnceMore image) (sym (cleared-once image n e o)) (λ q. again image n e o))
-    (λ o. subst (OnceMore image) (sym (refused-chain image n e o)) (λ q. q))
-
-pub twice : (image : List ℕ)
-    → clearedD64 (clearedD64 image .image) ≡ record { image = clearedD64 image .image; outcome = onceMore (clearedD64 image .outcome) }
-twice image = by-size image (tracksOf (length image)) refl refl
+pub clearing-twice : (disk : Disk) → InD64 disk → (image : List ℕ) → Large (disk .highest) image
+    → OnceMore (clearing d64Kind disk) (clearing d64Kind disk image)
+clearing-twice disk laws image large =
+    by-test (OnceMore (clearing d64Kind disk) (clearing d64Kind disk image)) (chainOf disk (d64Sector image) .ok)
+    (λ o. subst (OnceMore (clearing d64Kind disk)) (sym (cleared-once disk laws image large o)) (again disk laws image large o))
+    (λ o. let e = refused-chain disk laws image large o in subst (OnceMore (clearing d64Kind disk)) (sym e) e)

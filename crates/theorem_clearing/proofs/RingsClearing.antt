@@ -1,13 +1,16 @@
--- Clearing an image of rings, G64 or NIB.
---     g64-length, nib-length    the image keeps its length
-use mathlib.Core.Path.{_≡_, refl, sym, _∙_, subst}
-use mathlib.Core.Bool.{Bool}
+-- Clearing an image of rings, G64 or NIB: the rings of the tracks that are cleared may change, and nothing beside them.
+--     g64-cleared, nib-cleared    so it is for a G64 and for a NIB image, by the table as it came
+use mathlib.Core.Path.{_≡_, refl, sym, ap, _∙_, subst}
+use mathlib.Core.Logic.{_⊎_, ⊎-elim}
 use mathlib.Core.List.{List}
-use Prim.Native.Nat.{ℕ}
+use Prim.Native.Nat.{ℕ, _+_, _≤_, _<_}
+use native.Mathlib.Nat.{add-zero}
 use native.Mathlib.Omega.{arith}
-use lib.ListN.{length, take, drop, replicate, length-take, length-drop}
-use Rattle.base.proofs.Parts.{on-length}
-use Rattle.geometry.specs.Zones.{sectorsOf}
+use lib.ListN.{length, getD, take, drop, replicate, length-take, length-drop}
+use lib.Seq.{getD-drop}
+use Rattle.base.specs.Lists.{onPart}
+use Rattle.base.proofs.Parts.{on-length, on-before}
+use Rattle.base.proofs.Picks.{pick-ind}
 use Rattle.scan.specs.declared.SectorRecord.{SectorRecord}
 use Rattle.base.specs.declared.Sector.{Sector}
 use Rattle.sector.specs.Rules.{unique, consistent}
@@ -19,53 +22,75 @@ use Rattle.image.specs.declared.Table.{Table}
 use Rattle.image.specs.Rings.{ringPlace, withRing}
 use Rattle.image.specs.G64.{g64Table}
 use Rattle.image.specs.Nib.{nibTable}
+use Rattle.image.proofs.PartReads.{drop-further}
 use Rattle.image.proofs.TableLaws.{Inside, AllInside, g64-inside, nib-inside, track-inside}
-use Rattle.reclaim_directory.specs.Disk.{bamFree, disk1541, isFree}
-use Rattle.reclaim_directory.specs.Chains.{chainOf}
-use Rattle.reclaim.specs.Clearing.{tracksDone, untouched, Answer, withChain, withBam}
 use Rattle.image_sector.specs.Kinds.{ringsKind}
+use Rattle.reclaim_directory.specs.Disk.{Disk, disk1541}
+use Rattle.reclaim.specs.Clearing.{Answer, clearing}
 use Rattle.reclaim.specs.Images.{byTable, clearedG64, clearedNib}
-use Rattle.base.proofs.Picks.{pick-ind}
-use Rattle.reclaim.proofs.Counted.{tracks-hold}
+use Rattle.reclaim.proofs.Counted.{clearing-holds}
+use Rattle.theorem_clearing.specs.Meaning.{Beside, RingsCleared}
 
--- a ring that keeps its length leaves the image its own
-with-length : (f : List ℕ → List ℕ) → ((ring : List ℕ) → length (f ring) ≡ length ring) → (image : List ℕ) (p : Place)
-    → Inside (length image) p
-    → length (withRing f image p) ≡ length image
-with-length f keeps image Absent h = refl
-with-length f keeps image Wrong h = refl
-with-length f keeps image (At start long) h =
-    let n : length (take long (drop start image)) ≡ long = simp (length-take, length-drop) (omega arith) in
-    on-length start long f image h (keeps (take long (drop start image)) ∙ n)
+-- a ring that keeps its length leaves the image its own, and every byte beside it
+module _ (f : List ℕ → List ℕ) (keeps : (ring : List ℕ) → length (f ring) ≡ length ring) (image : List ℕ) where
+  whole : (start long : ℕ) → start + long ≤ length image → length (f (take long (drop start image))) ≡ long
+  whole start long h =
+      let n : length (take long (drop start image)) ≡ long = simp (length-take, length-drop) (omega arith) in
+      keeps (take long (drop start image)) ∙ n
 
-module _ (rule : List SectorRecord → Sector) (table : Table) (image : List ℕ) (all : AllInside (length image) table) where
-  abbrev Same : List ℕ → Type 0
-  Same l = length l ≡ length image
+  with-length : (p : Place) → Inside (length image) p → length (withRing f image p) ≡ length image
+  with-length Absent h = refl
+  with-length Wrong h = refl
+  with-length (At start long) h = on-length start long f image h (whole start long h)
 
-  stays : (t s : ℕ) (l : List ℕ) → Same l → Same (ringsKind rule table .zeroed t s l)
-  stays t s l e =
-      with-length (replacedBy rule t s (replicate 256 0)) (λ ring. replaced-length rule t s (replicate 256 0) ring) l (ringPlace table t)
-      (subst (λ (n : ℕ). Inside n (ringPlace table t)) (sym e) (track-inside (length image) table t all)) ∙ e
+  behind : (start long i : ℕ) → start + long ≤ length image → start + long ≤ i → getD (onPart start long f image) i 0 ≡ getD image i 0
+  behind start long i h l =
+      let e = ap (λ (xs : List ℕ). getD xs 0 0) (drop-further start long f image h (whole start long h) i l) in
+      let z = add-zero i in
+      rw z at (sym (getD-drop i (onPart start long f image) 0 0) ∙ e ∙ getD-drop i image 0 0)
 
-  done-length : (free : ℕ → ℕ → Bool) → length (tracksDone (ringsKind rule table) sectorsOf free 35 (untouched image) .image) ≡ length image
-  done-length free = tracks-hold (ringsKind rule table) sectorsOf free Same 35 (untouched image) (λ t s p h b l e. stays t s l e) refl
+  with-beside : (p : Place) → Inside (length image) p → (i : ℕ) → Beside p i → getD (withRing f image p) i 0 ≡ getD image i 0
+  with-beside Absent h i b = refl
+  with-beside Wrong h i b = refl
+  with-beside (At start long) h i b =
+      ⊎-elim (λ l. on-before start long f image h (whole start long h) i 0 l) (λ l. behind start long i h l) b
 
-  pub table-length : length (byTable rule image table .image) ≡ length image
-  unfolding byTable withBam withChain
-  table-length =
-      pick-ind (λ (a : Answer). length (a .image) ≡ length image) (table .ok) _ _
-      (λ o. pick-ind (λ (a : Answer). length (a .image) ≡ length image) (ringsKind rule table .read image 18 0 .ok) _ _
-      (λ b. let bam = ringsKind rule table .read image 18 0 .bytes in
-      let c = chainOf (disk1541 35) (ringsKind rule table .read image) bam in
-      pick-ind (λ (a : Answer). length (a .image) ≡ length image) (c .ok) _ _ (λ k. done-length (isFree (bamFree bam) (c .marks)))
-      (λ k. refl))
-      (λ b. refl))
-      (λ o. refl)
+module _ (rule : List SectorRecord → Sector) (table : Table) (disk : Disk) (image : List ℕ) (all : AllInside (length image) table) where
+  abbrev Beyond : ℕ → Type 0
+  Beyond i = (t : ℕ) → 0 < t → t ≤ disk .last → Beside (ringPlace table t) i
 
-pub g64-length : (image : List ℕ) → length (clearedG64 image .image) ≡ length image
+  stays : (t s : ℕ) → 0 < t → t ≤ disk .last → (l : List ℕ) → RingsCleared disk table image l
+      → RingsCleared disk table image (ringsKind rule table .zeroed t s l)
+  stays t s p h l so =
+      let f = replacedBy rule t s (replicate 256 0) in
+      let keeps : (ring : List ℕ) → length (f ring) ≡ length ring = λ ring. replaced-length rule t s (replicate 256 0) ring in
+      let in-l : Inside (length l) (ringPlace table t)
+      = subst (λ (n : ℕ). Inside n (ringPlace table t)) (sym (so .same-length)) (track-inside (length image) table t all) in
+      record {
+        same-length = with-length f keeps l (ringPlace table t) in-l ∙ so .same-length;
+        beside = λ i b. with-beside f keeps l (ringPlace table t) in-l i (b t p h) ∙ so .beside i b;
+      }
+
+  untouched-so : RingsCleared disk table image image
+  untouched-so = record { same-length = refl; beside = λ i b. refl }
+
+  pub rings-cleared : RingsCleared disk table image (clearing (ringsKind rule table) disk image .image)
+  rings-cleared =
+      clearing-holds (ringsKind rule table) disk (RingsCleared disk table image) image (λ t s p h b l so. stays t s p h l so) untouched-so
+
+-- by a table, refused or not
+by-table : (rule : List SectorRecord → Sector) (table : Table) (image : List ℕ) → AllInside (length image) table
+    → RingsCleared disk1541 table image (byTable rule image table .image)
+unfolding byTable
+by-table rule table image all =
+    pick-ind (λ (a : Answer). RingsCleared disk1541 table image (a .image)) (table .ok) _ _
+    (λ o. rings-cleared rule table disk1541 image all)
+    (λ o. untouched-so rule table disk1541 image all)
+
+pub g64-cleared : (image : List ℕ) → RingsCleared disk1541 (g64Table image) image (clearedG64 image .image)
 unfolding clearedG64
-g64-length image = table-length unique (g64Table image) image (g64-inside image)
+g64-cleared image = by-table unique (g64Table image) image (g64-inside image)
 
-pub nib-length : (image : List ℕ) → length (clearedNib image .image) ≡ length image
+pub nib-cleared : (image : List ℕ) → RingsCleared disk1541 (nibTable image) image (clearedNib image .image)
 unfolding clearedNib
-nib-length image = table-length consistent (nibTable image) image (nib-inside image)
+nib-cleared image = by-table consistent (nibTable image) image (nib-inside image)

@@ -5,25 +5,20 @@ use mathlib.Core.Logic.{_≢_, _⊎_}
 use mathlib.Core.Bool.{Bool, true, false}
 use mathlib.Core.List.{List}
 use Rattle.reclaim_directory.specs.Marks.{marked, markPlace}
-use Rattle.reclaim_directory.specs.Disk.{Disk, isAddress}
-use Rattle.reclaim_directory.specs.Chains.{Reader, nextTrack, nextSector}
-
-pub record Address : Type 0 where
-  pub track : ℕ
-  pub sector : ℕ
+use Rattle.reclaim_directory.specs.Disk.{Reader, Address, address, Disk, isAddress}
+use Rattle.reclaim_directory.specs.Chains.{nextTrack, nextSector}
 
 -- the address that the sector at an address names, and the one that k links lead to
 abbrev pub next : Reader → Address → Address
-next read a =
-    record { track = nextTrack (read (a .track) (a .sector)); sector = nextSector (read (a .track) (a .sector)) }
+next read a = address (nextTrack (read (a .track) (a .sector))) (nextSector (read (a .track) (a .sector)))
 
 unfoldable pub linked : Reader → Address → ℕ → Address
 linked read a zero = a
 linked read a (suc k) = linked read (next read a) k
 
--- the mark of an address
-abbrev pub placeOf : Address → ℕ
-placeOf a = markPlace (a .track) (a .sector)
+-- the place of the mark of an address
+abbrev pub markOf : Address → ℕ
+markOf a = markPlace (a .track) (a .sector)
 
 -- n links lead from an address to track 0: all sectors on the way are valid addresses that read, no one is met twice,
 -- and none was marked before
@@ -32,11 +27,11 @@ pub record IsChain (disk : Disk) (read : Reader) (before : List Bool) (a : Addre
   pub valid : (k : ℕ) → k < n → isAddress disk (linked read a k .track) (linked read a k .sector) ≡ true
   pub readable : (k : ℕ) → k < n → read (linked read a k .track) (linked read a k .sector) .ok ≡ true
   pub fresh : (k : ℕ) → k < n → marked before (linked read a k .track) (linked read a k .sector) ≡ false
-  pub no-repeat : (j k : ℕ) → j < k → k < n → placeOf (linked read a j) ≢ placeOf (linked read a k)
+  pub no-repeat : (j k : ℕ) → j < k → k < n → markOf (linked read a j) ≢ markOf (linked read a k)
 
 -- what is marked after the chain is what was marked before, and the chain's sectors
 pub record Keeps (read : Reader) (before : List Bool) (a : Address) (n : ℕ) (after : List Bool) : Type 0 where
   pub old : (t s : ℕ) → marked before t s ≡ true → marked after t s ≡ true
   pub new : (k : ℕ) → k < n → marked after (linked read a k .track) (linked read a k .sector) ≡ true
   pub only : (t s : ℕ) → marked after t s ≡ true
-      → (marked before t s ≡ true) ⊎ ((k : ℕ) × (k < n) × (markPlace t s ≡ placeOf (linked read a k)))
+      → (marked before t s ≡ true) ⊎ ((k : ℕ) × (k < n) × (markPlace t s ≡ markOf (linked read a k)))

@@ -3,8 +3,8 @@
 --     demand-3              the statement of specs/
 --     never-refused         that ring is refused by no reader
 use mathlib.Core.Path.{_≡_, refl, sym, ap, ap₂, _∙_, subst, fun-ext}
-use mathlib.Core.Logic.{_⊎_, inl, inr}
-use mathlib.Core.Bool.{Bool, not}
+use mathlib.Core.Logic.{_≢_, _⊎_, inl, inr}
+use mathlib.Core.Bool.{Bool, true, false, not, true≢false}
 use mathlib.Core.List.{List, [], _∷_}
 use Prim.Native.Nat.{ℕ, zero, suc, _+_, _-_, _*_, _/_, _%_, _≤_, _<_}
 use native.Mathlib.Omega.{arith}
@@ -16,13 +16,15 @@ use lib.ListN.{length, getD}
 use Rattle.base.specs.Choice.{pick}
 use Rattle.base.specs.Lists.{tab, joined}
 use Rattle.base.proofs.Lists.{length-tab, getD-tab, is-tab}
+use Rattle.base.specs.Limits.{longestRing}
+use Rattle.base.proofs.Tests.{eqb-no}
 use Rattle.geometry.specs.Zones.{zoneOf, sectorsIn, capacityIn, sectorsOf, capacityOf, slotStart}
 use Rattle.geometry.proofs.ZoneLaws.{zone-lt, capacity-le, sectors-in, gap-ge, fills, start-next}
 use Rattle.gcr.proofs.EncodeLaws.{at, nibble, Bytes}
 use Rattle.ring.specs.Bit.{bits, bitAt}
 use Rattle.ring.specs.Stretch.{inStretch, ForcedToZero}
 use Rattle.ring.proofs.StretchLaws.{forced}
-use Rattle.track_build.specs.Blocks.{headerBytes, dataBytes}
+use Rattle.track_build.specs.Blocks.{headerBytes, dataBytes, spoils}
 use Rattle.track_build.specs.Slots.{codeOf, payloadOf, slot, builtTrack}
 use Rattle.track_build.proofs.Unrolled.{Track}
 use Rattle.track_build.proofs.SlotBits.{headed}
@@ -30,10 +32,10 @@ use Rattle.track_build.proofs.TrackBits.{slotAt, st, ln, length-ring, slot-fits
 use Rattle.track_build.proofs.Meaning.{Meaning, meaning, header-lt, data-long, data-lt, mark-is}
 use Rattle.scan.specs.Scan.{recordsOf, visitsOf}
 use Rattle.scan.specs.declared.SectorRecord.{SectorRecord}
-use Rattle.track_read.specs.Reading.{handedOut, missing, firstOf, readSector}
+use Rattle.track_read.specs.Reading.{Given, NotGiven, firstOf, readSector}
 use Rattle.scan.proofs.ScanLaws.{scan, Every, Any, every-map, few-records}
-use Rattle.track_read.proofs.ReadingLaws.{Handed, handed, first-cases, first-found}
-use Rattle.theorem_dropout.specs.Demand3.{Dropout, OfBytes, damaged, own, Spoils, Statement, NeverRefused}
+use Rattle.track_read.proofs.ReadingLaws.{GivenBy, first-cases, first-found}
+use Rattle.theorem_dropout.specs.Demand3.{Dropout, OfBytes, damaged, own, isSpoilt, Statement, NeverRefused}
 use Rattle.theorem_dropout.proofs.Cut.{dropped, outside, around}
 use Rattle.theorem_dropout.proofs.Sound.{Whole, sound}
 use Rattle.theorem_dropout.proofs.Complete.{complete}
@@ -233,16 +235,15 @@ module _ (track id1 id2 : ℕ) (payloads codes : List ℕ) (ht : track < 256) (h
 
 -- ---- the statement
 -- a code that does not spoil is none of the five, and one of the five is not whole
-not-spoilt : (c : ℕ) → ¬ (Spoils c) → Whole c
-not-spoilt c n =
-    (λ e. n (inl e), λ e. n (inr (inl e)), λ e. n (inr (inr (inl e))), λ e. n (inr (inr (inr (inl e)))), λ e. n (inr (inr (inr (inr e)))))
+is-other : (c k : ℕ) → spoils c ≡ false → spoils k ≡ true → c ≢ k
+is-other c k n y e = absurd (true≢false (sym y ∙ ap spoils (sym e) ∙ n))
 
-not-whole : (c : ℕ) → Spoils c → Whole c → ⊥
-not-whole c (inl e) w = w .0 e
-not-whole c (inr (inl e)) w = w .1 e
-not-whole c (inr (inr (inl e))) w = w .2 e
-not-whole c (inr (inr (inr (inl e)))) w = w .3 e
-not-whole c (inr (inr (inr (inr e)))) w = w .4 e
+not-spoilt : (c : ℕ) → spoils c ≡ false → Whole c
+not-spoilt c n = (is-other c 2 n refl, is-other c 3 n refl, is-other c 4 n refl, is-other c 5 n refl, is-other c 9 n refl)
+
+not-whole : (c : ℕ) → spoils c ≡ true → Whole c → ⊥
+not-whole c s w =
+    true≢false (sym s ∙ rw (eqb-no c 2 (w .0), eqb-no c 3 (w .1), eqb-no c 4 (w .2), eqb-no c 5 (w .3), eqb-no c 9 (w .4)))
 
 module _ (d : Dropout) (ok : OfBytes d) where
   abbrev P : SectorRecord → Type 0
@@ -266,15 +267,15 @@ module _ (d : Dropout) (ok : OfBytes d) where
       all-own (d .track) (d .id1) (d .id2) (d .payloads) (d .codes) (ok .track-byte) (ok .id1-byte) (ok .id2-byte) (ok .payload-bytes)
       (d .place) (d .long) (damaged d) (d .start) zeroed
 
-  -- what is handed out of records that are all their own sector's is the sector's own
-  handed-own : (j : ℕ) → Handed P j (firstOf j found) → firstOf j found ≡ own d j
-  handed-own j (r, p, e, q) = q ∙ ap handedOut (p .2 ∙ ap (payloadOf (d .payloads)) e)
+  -- what is given of records that are all their own sector's is the sector's own
+  given-own : (j : ℕ) → GivenBy P j (firstOf j found) → firstOf j found ≡ own d j
+  given-own j (r, p, e, q) = q ∙ ap Given (p .2 ∙ ap (payloadOf (d .payloads)) e)
 
-  sort : (j : ℕ) → (firstOf j found ≡ missing) ⊎ Handed P j (firstOf j found) → (firstOf j found ≡ own d j) ⊎ (firstOf j found ≡ missing)
+  sort : (j : ℕ) → (firstOf j found ≡ NotGiven) ⊎ GivenBy P j (firstOf j found) → (firstOf j found ≡ own d j) ⊎ (firstOf j found ≡ NotGiven)
   sort j (inl e) = inr e
-  sort j (inr h) = inl (handed-own j h)
+  sort j (inr h) = inl (given-own j h)
 
-  none : (j : ℕ) → Spoils (codeOf (d .codes) j) → (firstOf j found ≡ missing) ⊎ Handed P j (firstOf j found) → firstOf j found ≡ missing
+  none : (j : ℕ) → isSpoilt d j ≡ true → (firstOf j found ≡ NotGiven) ⊎ GivenBy P j (firstOf j found) → firstOf j found ≡ NotGiven
   none j s (inl e) = e
   none j s (inr (r, p, e, q)) =
       absurd (not-whole (codeOf (d .codes) j) s (subst (λ (y : ℕ). Whole (codeOf (d .codes) y)) e (p .1)))
@@ -282,22 +283,22 @@ module _ (d : Dropout) (ok : OfBytes d) where
   abbrev ring-long : length (damaged d) ≡ capacityOf (d .track)
   ring-long = zeroed .same-length ∙ as-long
 
-  ring-small : length (damaged d) ≤ 65535
+  ring-small : length (damaged d) ≤ longestRing
   ring-small = omega (arith, ring-long, capacity-le (zoneOf (d .track)) (zone-lt (d .track)))
 
 -- what is handed out for any number j, a sector of the track or not
-pub own-or-missing : (d : Dropout) → OfBytes d → (j : ℕ)
-    → (readSector (damaged d) (d .track) (d .start) j ≡ own d j) ⊎ (readSector (damaged d) (d .track) (d .start) j ≡ missing)
-own-or-missing d ok j = sort d ok j (first-cases (P d ok) j (found d ok) (every d ok))
+pub own-or-none : (d : Dropout) → OfBytes d → (j : ℕ)
+    → (readSector (damaged d) (d .track) (d .start) j ≡ own d j) ⊎ (readSector (damaged d) (d .track) (d .start) j ≡ NotGiven)
+own-or-none d ok j = sort d ok j (first-cases (P d ok) j (found d ok) (every d ok))
 
 pub demand-3 : Statement
 demand-3 d ok j lj = record {
   escaped = λ s esc.
-      handed-own d ok j
+      given-own d ok j
       (first-found (P d ok) j (found d ok) (every d ok)
       (all-found (d .track) (d .id1) (d .id2) (d .payloads) (d .codes) (ok .track-byte) (ok .id1-byte) (ok .id2-byte) (ok .payload-bytes)
       (d .place) (d .long) (damaged d) (d .start) (zeroed d ok) j lj (not-spoilt (codeOf (d .codes) j) s) esc));
-  hit = own-or-missing d ok j;
+  hit = own-or-none d ok j;
   spoiled = λ s. none d ok j s (first-cases (P d ok) j (found d ok) (every d ok));
 }
 

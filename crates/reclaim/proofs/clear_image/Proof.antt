@@ -1,5 +1,7 @@
 use Rattle.reclaim.proofs.ClearSteps.{no-bam, no-chain, all-cleared}
 use Rattle.image_sector.specs.Kinds.{kindOf}
+use Rattle.base.specs.declared.Sector.{Sector}
+use mathlib.Core.Path.{ap}
 use borrow.Author.Tests.{not-true, not-false}
 use borrow.Author.Needs.{needs}
 use Rattle.reclaim.proofs.clear_image.Statement.{statement}
@@ -19,7 +21,10 @@ returns c =
     (not-true _ (c .if1 .taken))
 
 directory-chain-requires : tie.Need-directory-chain-requires
-directory-chain-requires c κs = search needs
+directory-chain-requires c κs =
+    let r = c .before .before .before .before .before in
+    let p = r .before .before .before .pre in
+    (p .0, (p .1, ap (λ (x : Sector). x .bytes) (r .read-sector .ensures)))
 
 same-length-2 : tie.Need-same-length-2
 same-length-2 c = search needs

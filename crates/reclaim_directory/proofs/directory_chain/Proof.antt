@@ -3,7 +3,7 @@ use borrow.Author.Tests.{not-true, not-false}
 use Rattle.image_sector.specs.Kinds.{kindOf}
 use Rattle.reclaim_directory.specs.Chains.{chainAt}
 use Rattle.reclaim_directory.specs.Marks.{noMarks, markPlace}
-use Rattle.reclaim_directory.specs.Disk.{disk1541}
+use Rattle.reclaim_directory.specs.Disk.{disk1541, linksUpTo}
 use mathlib.Core.Path.{sym, ap, _∙_}
 use mathlib.Core.Bool.{true}
 use Prim.Native.Nat.{ℕ}
@@ -30,7 +30,7 @@ returns c =
     let v = c .before .before in
     let a = v .before .before .before .before .args in
     c .broken-chain .ensures
-    ∙ chain-of-bad (disk1541 (a .highest)) (kindOf (a .kind) (a .table) .read (a .image .now)) (a .bam .now)
+    ∙ chain-of-bad (linksUpTo (a .highest) disk1541) (kindOf (a .kind) (a .table) .read (a .image .now)) (a .bam .now) (v .before .before .before .before .pre .1 .1)
     (sym (v .is-address .ensures) ∙ not-true _ (c .before .if1 .taken))
 
 array-write-marks : tie.Need-array-write-marks
@@ -48,11 +48,12 @@ returns-2 c =
     let m = c .before in
     let v = m .before .before in
     let a = v .before .before .before .before .args in
+    let disk = linksUpTo (a .highest) disk1541 in
     let read = kindOf (a .kind) (a .table) .read (a .image .now) in
     c .follow .ensures
-    ∙ ap (λ (p : ℕ). chainAt (disk1541 (a .highest)) read (set noMarks p true) 0 (getD (a .bam .now) 0 0) (getD (a .bam .now) 1 0))
+    ∙ ap (λ (p : ℕ). chainAt disk read (set (noMarks (disk .marks)) p true) 0 (getD (a .bam .now) 0 0) (getD (a .bam .now) 1 0))
     (m .mark-place .ensures)
-    ∙ chain-of (disk1541 (a .highest)) read (a .bam .now) (sym (v .is-address .ensures) ∙ not-false _ (m .before .if1 .left))
+    ∙ chain-of disk read (a .bam .now) (v .before .before .before .before .pre .1 .1) (sym (v .is-address .ensures) ∙ not-false _ (m .before .if1 .left))
 
 pub directory-chain-spec : {M : Type 1} → statement M
 directory-chain-spec =

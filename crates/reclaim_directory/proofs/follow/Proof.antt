@@ -5,7 +5,7 @@ use Rattle.geometry.proofs.ZoneLaws.{sectors-of}
 use Rattle.image_sector.specs.Kinds.{kindOf}
 use Rattle.reclaim_directory.specs.Chains.{chainAt}
 use Rattle.reclaim_directory.specs.Marks.{markPlace, unmarked}
-use Rattle.reclaim_directory.specs.Disk.{isAddress, disk1541}
+use Rattle.reclaim_directory.specs.Disk.{isAddress, disk1541, linksUpTo}
 use mathlib.Core.Path.{_≡_, refl, sym, _∙_}
 use mathlib.Core.Bool.{true}
 use Prim.Native.Nat.{_+_, _≤_, _<_}
@@ -18,8 +18,8 @@ use Rattle.reclaim_directory.proofs.follow.Tie as tie
 abbrev Inv-loop : tie.InvT-loop
 Inv-loop image kind table highest first-track first-sector marks₀ n₀ track₀ sector₀ marks n track sector =
     (length marks ≡ 882) × (n + unmarked marks ≡ unmarked marks₀) × (unmarked marks₀ ≤ 882)
-    × (chainAt (disk1541 highest) (kindOf kind table .read image) marks n track sector
-    ≡ chainAt (disk1541 highest) (kindOf kind table .read image) marks₀ 0 track₀ sector₀)
+    × (chainAt (linksUpTo highest disk1541) (kindOf kind table .read image) marks n track sector
+    ≡ chainAt (linksUpTo highest disk1541) (kindOf kind table .read image) marks₀ 0 track₀ sector₀)
 
 abbrev μ-loop : tie.MeasureT-loop
 μ-loop image kind table highest first-track first-sector marks₀ n₀ track₀ sector₀ marks n track sector = unmarked marks
@@ -41,14 +41,14 @@ returns c =
     let l = v .before .before in
     let a = l .before .before .args in
     c .broken-chain .ensures
-    ∙ chain-invalid (disk1541 (a .highest)) (kindOf (a .kind) (a .table) .read (a .image .now)) (l .loop .marks) (l .loop .n)
+    ∙ chain-invalid (linksUpTo (a .highest) disk1541) (kindOf (a .kind) (a .table) .read (a .image .now)) (l .loop .marks) (l .loop .n)
     (l .loop .track) (l .loop .sector) (v .before .loop-test .taken)
     (sym (v .is-address .ensures) ∙ not-true _ (c .before .if1 .taken))
     ∙ l .loop .inv .3
 
 -- past the first test the address is valid
 valid : (c : tie.Else1 Inv-loop μ-loop)
-    → isAddress (disk1541 (c .before .before .before .before .before .args .highest)) (c .before .before .before .loop .track)
+    → isAddress (linksUpTo (c .before .before .before .before .before .args .highest) disk1541) (c .before .before .before .loop .track)
     (c .before .before .before .loop .sector) ≡ true
 valid c = sym (c .before .is-address .ensures) ∙ not-false _ (c .if1 .left)
 
@@ -56,7 +56,7 @@ address : (c : tie.Else1 Inv-loop μ-loop)
     → (0 < c .before .before .before .loop .track) × (c .before .before .before .loop .track ≤ 42)
     × (c .before .before .before .loop .sector < 21)
 address c =
-    let f = address-facts (disk1541 (c .before .before .before .before .before .args .highest)) _ _ (valid c) in
+    let f = address-facts (linksUpTo (c .before .before .before .before .before .args .highest) disk1541) _ _ (valid c) in
     omega (arith, f .0, f .1, f .2, sectors-of (c .before .before .before .loop .track) .1, c .before .before .before .before .before .pre)
 
 place : (c : tie.After-mark-place Inv-loop μ-loop) → c .mark-place .result < 882
@@ -88,7 +88,7 @@ returns-2 c =
     let l = v .before .before in
     let a = l .before .before .args in
     c .broken-chain2 .ensures
-    ∙ chain-marked (disk1541 (a .highest)) (kindOf (a .kind) (a .table) .read (a .image .now)) (l .loop .marks) (l .loop .n)
+    ∙ chain-marked (linksUpTo (a .highest) disk1541) (kindOf (a .kind) (a .table) .read (a .image .now)) (l .loop .marks) (l .loop .n)
     (l .loop .track) (l .loop .sector) (v .before .loop-test .taken)
     (valid (p .before)) (p .mark-place .result) (p .mark-place .ensures) (c .before .if2 .taken)
     ∙ l .loop .inv .3
@@ -113,7 +113,7 @@ returns-3 c =
     let l = v .before .before in
     let a = l .before .before .args in
     c .broken-chain3 .ensures
-    ∙ chain-unread (disk1541 (a .highest)) (kindOf (a .kind) (a .table) .read (a .image .now)) (l .loop .marks) (l .loop .n)
+    ∙ chain-unread (linksUpTo (a .highest) disk1541) (kindOf (a .kind) (a .table) .read (a .image .now)) (l .loop .marks) (l .loop .n)
     (l .loop .track) (l .loop .sector) (v .before .loop-test .taken)
     (valid (p .before)) (p .mark-place .result) (p .mark-place .ensures) (r .read-sector .result) (r .read-sector .ensures)
     (r .before .if2 .left) (not-true _ (c .before .if3 .taken))
@@ -142,7 +142,7 @@ loop-again c =
       simp length-set (l .loop .inv .0),
       omega arith,
       l .loop .inv .2,
-      sym (chain-next (disk1541 (a .highest)) (kindOf (a .kind) (a .table) .read (a .image .now)) (l .loop .marks) (l .loop .n)
+      sym (chain-next (linksUpTo (a .highest) disk1541) (kindOf (a .kind) (a .table) .read (a .image .now)) (l .loop .marks) (l .loop .n)
           (l .loop .track) (l .loop .sector) (v .before .loop-test .taken)
           (valid (p .before)) (p .mark-place .result) (p .mark-place .ensures) (r .read-sector .result) (r .read-sector .ensures)
           (r .before .if2 .left) (omega (arith, place p)) (not-false _ (c .before .before .if3 .left)))
@@ -153,7 +153,7 @@ returns-4 : tie.Need-returns-4 Inv-loop μ-loop
 returns-4 c =
     let l = c .before in
     let a = l .before .before .args in
-    chain-end (disk1541 (a .highest)) (kindOf (a .kind) (a .table) .read (a .image .now)) (l .loop .marks) (l .loop .n) (l .loop .track)
+    chain-end (linksUpTo (a .highest) disk1541) (kindOf (a .kind) (a .table) .read (a .image .now)) (l .loop .marks) (l .loop .n) (l .loop .track)
     (l .loop .sector) (c .loop-test .left) ∙ l .loop .inv .3
 
 pub follow-spec : {M : Type 1} → statement M

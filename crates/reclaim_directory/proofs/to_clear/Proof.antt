@@ -1,6 +1,5 @@
 use Rattle.reclaim_directory.proofs.MarkLaws.{used, by-mark}
 use Rattle.geometry.proofs.ZoneLaws.{sectors-of}
-use Rattle.reclaim_directory.specs.Disk.{bamFree}
 use Rattle.reclaim_directory.specs.Marks.{markPlace}
 use mathlib.Core.Path.{sym, _∙_}
 use native.Mathlib.Omega.{arith}
@@ -14,7 +13,7 @@ is-free-requires c κs = omega (arith, sectors-of (c .args .track) .1)
 returns : tie.Need-returns
 returns c =
     let a = c .before .before .args in
-    used (bamFree (a .bam .now)) (a .marks .now) (a .track) (a .sector) (sym (c .before .is-free .ensures) ∙ not-true _ (c .if1 .taken))
+    used (a .bam .now) (a .marks .now) (a .track) (a .sector) (sym (c .before .is-free .ensures) ∙ not-true _ (c .if1 .taken))
 
 mark-place-requires : tie.Need-mark-place-requires
 mark-place-requires c κs = omega (arith, sectors-of (c .before .before .args .track) .1)
@@ -28,7 +27,7 @@ returns-2 c =
     let p = c .before in
     let i = p .before .before in
     let a = i .before .args in
-    by-mark (bamFree (a .bam .now)) (a .marks .now) (a .track) (a .sector) (sym (i .is-free .ensures) ∙ not-false _ (p .before .if1 .left))
+    by-mark (a .bam .now) (a .marks .now) (a .track) (a .sector) (sym (i .is-free .ensures) ∙ not-false _ (p .before .if1 .left))
     (p .mark-place .result) (p .mark-place .ensures)
 
 pub to-clear-spec : {M : Type 1} → statement M
