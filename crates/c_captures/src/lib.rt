@@ -3,7 +3,7 @@
 ghost use mathlib.Core.Path.{_≡_};
 ghost use lib.ListN.{length};
 ghost use Rattle.nib_orbit.specs.Orbit.{recovered};
-ghost use Rattle.nib_slots.specs.Slots.{slotOf};
+ghost use Rattle.nib_slots.specs.Slots.{slotAnswer};
 ghost use Rattle.nib_write.specs.Encoding.{encodedOf, outAfter as fileAfter};
 ghost use Rattle.c_captures.specs.Numbers.{slotNumber, atAfter, spanAfter, zoneAfter, encodedNumber, writtenAfter};
 use nib_slots::NibSlot;
@@ -49,10 +49,10 @@ pub extern "C" fn fielbmaru_nib_slot(
     span: &mut u64,
     zone: &mut u64,
 ) -> u64
-    ensures { λ r. ⌜ (r ≡ slotNumber (slotOf (now (image .entry)) slot))
-        × (now (at .exit) ≡ atAfter (now (at .entry)) (slotOf (now (image .entry)) slot))
-        × (now (span .exit) ≡ spanAfter (now (span .entry)) (slotOf (now (image .entry)) slot))
-        × (now (zone .exit) ≡ zoneAfter (now (zone .entry)) (slotOf (now (image .entry)) slot)) ⌝ }
+    ensures { λ r. ⌜ (r ≡ slotNumber (slotAnswer (now (image .entry)) slot))
+        × (now (at .exit) ≡ atAfter (now (at .entry)) (slotAnswer (now (image .entry)) slot))
+        × (now (span .exit) ≡ spanAfter (now (span .entry)) (slotAnswer (now (image .entry)) slot))
+        × (now (zone .exit) ≡ zoneAfter (now (zone .entry)) (slotAnswer (now (image .entry)) slot)) ⌝ }
 {
     let answer = nib_slots::nib_slot(image, slot as usize);
     tell_slot(answer, at, span, zone)

@@ -1,14 +1,20 @@
 // Clears an image of any kind: read from standard input, the cleared image goes to standard output, and a line of what was done to
-// standard error. Refused, only that line is written.
+// standard error. Refused, only that line is written; of a file over 1 MiB only that it is too long.
 use libc::STDERR_FILENO;
 use libc::STDIN_FILENO;
 use libc::STDOUT_FILENO;
 use reclaim::Outcome;
 
-fn tell(outcome: Outcome) {
+fn refuse(number: u8) {
     let mut line = [0u8; 128];
-    let n = outcomes::put_outcome(&mut line, 0, outcome);
-    io::write_all(STDERR_FILENO, lines::so_far(&line, n));
+    let n = page::refused_line(&mut line, 0, number);
+    io::write_all(STDERR_FILENO, page::so_far(&line, n));
+}
+
+fn tell(free: usize, changed: usize) {
+    let mut line = [0u8; 128];
+    let n = page::cleared_line(&mut line, 0, free, changed);
+    io::write_all(STDERR_FILENO, page::so_far(&line, n));
 }
 
 fn clear(image: &mut [u8]) {
@@ -16,16 +22,16 @@ fn clear(image: &mut [u8]) {
     match outcome {
         Outcome::Cleared { free, changed } => {
             io::write_all(STDOUT_FILENO, image);
-            tell(Outcome::Cleared { free, changed });
+            tell(free, changed);
         }
-        Outcome::Refused(number) => tell(Outcome::Refused(number)),
+        Outcome::Refused(number) => refuse(number),
     }
 }
 
 fn run(buffer: &mut [u8]) {
     let n = io::read_full(STDIN_FILENO, buffer);
     if n == buffer.len() {
-        tell(Outcome::Refused(base::RING_TOO_LONG));
+        io::write_all(STDERR_FILENO, b"too long\n");
         return;
     }
     clear(&mut buffer[..n]);

@@ -3,18 +3,17 @@
 use libc::STDERR_FILENO;
 use libc::STDIN_FILENO;
 use libc::STDOUT_FILENO;
-use reclaim::Outcome;
 
 fn refuse(number: u8) {
     let mut line = [0u8; 128];
-    let n = outcomes::put_outcome(&mut line, 0, Outcome::Refused(number));
-    io::write_all(STDERR_FILENO, lines::so_far(&line, n));
+    let n = page::refused_line(&mut line, 0, number);
+    io::write_all(STDERR_FILENO, page::so_far(&line, n));
 }
 
 fn put_track(image: &[u8], track: u8) {
     let mut page = [0u8; 8192];
     let n = page_side::put_arcs(&mut page, 0, image, track);
-    io::write_all(STDOUT_FILENO, lines::so_far(&page, n));
+    io::write_all(STDOUT_FILENO, page::so_far(&page, n));
 }
 
 fn put_tracks(image: &[u8]) {
@@ -26,13 +25,13 @@ fn put_tracks(image: &[u8]) {
 fn put_head() {
     let mut page = [0u8; 512];
     let n = page_side::put_svg_head(&mut page, 0);
-    io::write_all(STDOUT_FILENO, lines::so_far(&page, n));
+    io::write_all(STDOUT_FILENO, page::so_far(&page, n));
 }
 
 fn put_end() {
     let mut page = [0u8; 512];
     let n = page_side::put_svg_end(&mut page, 0);
-    io::write_all(STDOUT_FILENO, lines::so_far(&page, n));
+    io::write_all(STDOUT_FILENO, page::so_far(&page, n));
 }
 
 fn draw(image: &[u8]) {
@@ -49,7 +48,7 @@ fn draw(image: &[u8]) {
 fn run(buffer: &mut [u8]) {
     let n = io::read_full(STDIN_FILENO, buffer);
     if n == buffer.len() {
-        refuse(base::RING_TOO_LONG);
+        io::write_all(STDERR_FILENO, b"too long\n");
         return;
     }
     draw(&buffer[..n]);

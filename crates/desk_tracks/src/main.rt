@@ -3,18 +3,17 @@
 use libc::STDERR_FILENO;
 use libc::STDIN_FILENO;
 use libc::STDOUT_FILENO;
-use reclaim::Outcome;
 
 fn refuse(number: u8) {
     let mut line = [0u8; 128];
-    let n = outcomes::put_outcome(&mut line, 0, Outcome::Refused(number));
-    io::write_all(STDERR_FILENO, lines::so_far(&line, n));
+    let n = page::refused_line(&mut line, 0, number);
+    io::write_all(STDERR_FILENO, page::so_far(&line, n));
 }
 
 fn put_line(image: &[u8], track: u8) {
     let mut page = [0u8; 2048];
     let n = page_track::put_track(&mut page, 0, image, track);
-    io::write_all(STDOUT_FILENO, lines::so_far(&page, n));
+    io::write_all(STDOUT_FILENO, page::so_far(&page, n));
 }
 
 fn put_lines(image: &[u8]) {
@@ -35,7 +34,7 @@ fn list(image: &[u8]) {
 fn run(buffer: &mut [u8]) {
     let n = io::read_full(STDIN_FILENO, buffer);
     if n == buffer.len() {
-        refuse(base::RING_TOO_LONG);
+        io::write_all(STDERR_FILENO, b"too long\n");
         return;
     }
     list(&buffer[..n]);

@@ -5,7 +5,7 @@ use mathlib.Core.List.{List}
 use Prim.Native.Nat.{ℕ, _+_, _*_, _≤_}
 use Rattle.nib_catalogue.specs.declared.Pairs.the-variants.{Count, Refused as NoCatalogue}
 use Rattle.nib_catalogue.specs.declared.Entry.the-variants.{At as Pair, Absent as NoPair, Refused as NoEntry}
-use Rattle.nib_catalogue.specs.Catalogue.{catalogueOf, placeOf}
+use Rattle.nib_catalogue.specs.Catalogue.{catalogueOf, entryWith}
 use Rattle.nib_slots.proofs.Slotting.{entry-is}
 use Rattle.image.specs.declared.Place.{Place}
 use Rattle.image.specs.declared.Place.the-variants.{At, Absent}
@@ -15,15 +15,15 @@ use Rattle.image.proofs.G64Laws.{front, front-all}
 
 -- ---- the window of a slot, by the pair that was found
 module _ (image : List ℕ) (slot n : ℕ) (q : catalogueOf image ≡ Count n) (h : slot ≤ 83) where
-  pub window-is : (k : ℕ) → placeOf image (slot + 2) n ≡ Pair k → At (256 + 8192 * k) 8192 ≡ nibEntry image slot
+  pub window-is : (k : ℕ) → entryWith image (slot + 2) n ≡ Pair k → At (256 + 8192 * k) 8192 ≡ nibEntry image slot
   unfolding nibEntry
   window-is k e = rw (← entry-is image slot n q h, e)
 
-  pub window-absent : placeOf image (slot + 2) n ≡ NoPair → Absent ≡ nibEntry image slot
+  pub window-absent : entryWith image (slot + 2) n ≡ NoPair → Absent ≡ nibEntry image slot
   unfolding nibEntry
   window-absent e = rw (← entry-is image slot n q h, e)
 
-  pub window-refused : (r : ℕ) → placeOf image (slot + 2) n ≡ NoEntry r → Absent ≡ nibEntry image slot
+  pub window-refused : (r : ℕ) → entryWith image (slot + 2) n ≡ NoEntry r → Absent ≡ nibEntry image slot
   unfolding nibEntry
   window-refused r e = rw (← entry-is image slot n q h, e)
 

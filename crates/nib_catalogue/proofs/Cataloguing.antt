@@ -2,16 +2,17 @@
 use Prim.Native.Nat.{ℕ, zero, suc, _+_, _-_, _*_, _≤_, _<_}
 use mathlib.Core.Path.{_≡_, refl, sym, ap, _∙_}
 use mathlib.Core.Bool.{Bool, true, false, not, _&&_}
-use mathlib.Core.List.{List}
+use mathlib.Core.List.{List, [], _∷_}
 use native.Mathlib.Omega.{arith}
-use lib.Dec.{eqb, leb}
+use lib.Dec.{eqb, ltb, leb}
 use lib.ListN.{length, take, drop}
 use borrow.Author.Tests.{eq-eqb, ne-eqb, lt-ltb, le-ltb, le-leb, lt-leb, leb-true}
+use Rattle.base.proofs.Tests.{le-of}
 use Rattle.base.specs.Choice.{pick}
 use Rattle.base.specs.Bytes.{sameBytes}
-use Rattle.base.specs.Refusals.{wrongImage, wrongEntries}
+use Rattle.base.specs.Refusals.{wrongImage, wrongEntries, _when_, refusal, unless}
 use Rattle.nib_catalogue.specs.Catalogue.{signature, isNib, codeAt, pairsFrom, pairs, among}
-use Rattle.nib_catalogue.specs.Catalogue.{faulty, anyFaulty, catalogueRight, catalogueOf, placeOf}
+use Rattle.nib_catalogue.specs.Catalogue.{windowStart, windowAt, faulty, anyFaulty, catalogueRefusal, catalogueOf, entryWith}
 use Rattle.nib_catalogue.specs.declared.Pairs.the-variants.{Count, Refused}
 use Rattle.nib_catalogue.specs.declared.Entry.{Entry}
 use Rattle.nib_catalogue.specs.declared.Entry.the-variants.{Absent, At}
@@ -26,8 +27,8 @@ module _ (file : List ℕ) (c : ℕ) where
   unfolding among
   among-none k e = rw e
 
-  pub place-none : (k : ℕ) → k ≡ 0 → Absent ≡ placeOf file c k
-  unfolding placeOf
+  pub place-none : (k : ℕ) → k ≡ 0 → Absent ≡ entryWith file c k
+  unfolding entryWith
   place-none k e = rw e
 
   module _ (k : ℕ) (h : 0 < k) where
@@ -39,13 +40,13 @@ module _ (file : List ℕ) (c : ℕ) where
     unfolding among
     among-on n = ap (among file c) (back k h) ∙ rw (ne-eqb (codeAt file (k - 1)) c n)
 
-    pub place-here : codeAt file (k - 1) ≡ c → placeOf file c k ≡ At (k - 1)
-    unfolding placeOf
-    place-here e = ap (placeOf file c) (back k h) ∙ rw (eq-eqb (codeAt file (k - 1)) c e)
+    pub place-here : codeAt file (k - 1) ≡ c → entryWith file c k ≡ At (k - 1)
+    unfolding entryWith
+    place-here e = ap (entryWith file c) (back k h) ∙ rw (eq-eqb (codeAt file (k - 1)) c e)
 
-    pub place-on : (codeAt file (k - 1) ≡ c → ⊥) → placeOf file c k ≡ placeOf file c (k - 1)
-    unfolding placeOf
-    place-on n = ap (placeOf file c) (back k h) ∙ rw (ne-eqb (codeAt file (k - 1)) c n)
+    pub place-on : (codeAt file (k - 1) ≡ c → ⊥) → entryWith file c k ≡ entryWith file c (k - 1)
+    unfolding entryWith
+    place-on n = ap (entryWith file c) (back k h) ∙ rw (ne-eqb (codeAt file (k - 1)) c n)
 
 module _ (file : List ℕ) where
   pub fault-none : (k : ℕ) → k ≡ 0 → false ≡ anyFaulty file k
@@ -118,27 +119,27 @@ module _ (file : List ℕ) where
 
 module _ (file : List ℕ) where
   pub file-other : isNib file ≡ false → Refused wrongImage ≡ catalogueOf file
-  unfolding catalogueOf
+  unfolding catalogueOf catalogueRefusal
   file-other e = rw e
 
   module _ (s : isNib file ≡ true) (n : ℕ) (q : n ≡ pairs file) where
     pub file-empty : n ≡ 0 → Refused wrongEntries ≡ catalogueOf file
-    unfolding catalogueOf catalogueRight
+    unfolding catalogueOf catalogueRefusal
     file-empty e = rw (s, ← q, eq-eqb n 0 e)
 
     module _ (z : n ≡ 0 → ⊥) where
       pub file-faulty : anyFaulty file n ≡ true → Refused wrongEntries ≡ catalogueOf file
-      unfolding catalogueOf catalogueRight
+      unfolding catalogueOf catalogueRefusal
       file-faulty e = rw (s, ← q, ne-eqb n 0 z, e)
 
       module _ (f : anyFaulty file n ≡ false) where
         pub file-cut : length file < 256 + 8192 * n → Refused wrongEntries ≡ catalogueOf file
-        unfolding catalogueOf catalogueRight
-        file-cut e = rw (s, ← q, ne-eqb n 0 z, f, lt-leb (256 + 8192 * n) (length file) e)
+        unfolding catalogueOf catalogueRefusal
+        file-cut e = rw (s, ← q, ne-eqb n 0 z, f, lt-ltb (length file) (256 + 8192 * n) e)
 
         pub file-good : 256 + 8192 * n ≤ length file → Count n ≡ catalogueOf file
-        unfolding catalogueOf catalogueRight
-        file-good e = rw (s, ← q, ne-eqb n 0 z, f, le-leb (256 + 8192 * n) (length file) e)
+        unfolding catalogueOf catalogueRefusal
+        file-good e = rw (s, ← q, ne-eqb n 0 z, f, le-ltb (length file) (256 + 8192 * n) e)
 
 -- ---- what a catalogue that was not refused tells
 
@@ -162,30 +163,38 @@ pub record Counted (file : List ℕ) (n : ℕ) : Type 0 where
 
 -- the tests that end in a count, taken apart
 counted-by : (s z f t : Bool) (m n : ℕ)
-    → pick s (pick (not z && (not f && t)) (Count m) (Refused wrongEntries)) (Refused wrongImage) ≡ Count n → (t ≡ true) × (m ≡ n)
+    → unless (refusal (wrongImage when not s ∷ wrongEntries when z ∷ wrongEntries when f ∷ wrongEntries when t ∷ [])) Refused (Count m) ≡ Count n
+    → (t ≡ false) × (m ≡ n)
 counted-by false z f t m n e = let q : _≡_ {A = ℕ} 0 1 = cc in let w : ⊥ = omega arith in absurd w
 counted-by true true f t m n e = let q : _≡_ {A = ℕ} 0 1 = cc in let w : ⊥ = omega arith in absurd w
 counted-by true false true t m n e = let q : _≡_ {A = ℕ} 0 1 = cc in let w : ⊥ = omega arith in absurd w
-counted-by true false false false m n e = let q : _≡_ {A = ℕ} 0 1 = cc in let w : ⊥ = omega arith in absurd w
-counted-by true false false true m n e = (refl, cc)
+counted-by true false false true m n e = let q : _≡_ {A = ℕ} 0 1 = cc in let w : ⊥ = omega arith in absurd w
+counted-by true false false false m n e = (refl, cc)
 
 pub counted : (file : List ℕ) (n : ℕ) → catalogueOf file ≡ Count n → Counted file n
-unfolding catalogueOf catalogueRight
+unfolding catalogueOf catalogueRefusal
 counted file n e =
     let w =
-    counted-by (isNib file) (eqb (pairs file) 0) (anyFaulty file (pairs file)) (leb (256 + 8192 * pairs file) (length file)) (pairs file)
+    counted-by (isNib file) (eqb (pairs file) 0) (anyFaulty file (pairs file)) (ltb (length file) (windowStart (pairs file))) (pairs file)
     n e in
     record {
       is = sym (w .1);
       few = omega (arith, pairs-le file, w .1);
-      whole = omega (arith, leb-true (256 + 8192 * pairs file) (length file) (w .0), w .1);
+      whole = omega (arith, le-of (length file) (windowStart (pairs file)) (w .0), w .1);
     }
 
 found-by : (b : Bool) (j n k : ℕ) (e : Entry) → (e ≡ At k → k < n) → j ≡ n → pick b (At j) e ≡ At k → k < suc n
 found-by true j n k e f h q = let z : j ≡ k = cc in omega arith
 found-by false j n k e f h q = let z : k < n = f q in omega arith
 
-pub place-in : (file : List ℕ) (c n k : ℕ) → placeOf file c n ≡ At k → k < n
-unfolding placeOf
+pub place-in : (file : List ℕ) (c n k : ℕ) → entryWith file c n ≡ At k → k < n
+unfolding entryWith
 place-in file c zero k e = let q : _≡_ {A = ℕ} 0 1 = cc in let w : ⊥ = omega arith in absurd w
-place-in file c (suc n) k e = found-by (eqb (codeAt file n) c) n n k (placeOf file c n) (place-in file c n k) refl e
+place-in file c (suc n) k e = found-by (eqb (codeAt file n) c) n n k (entryWith file c n) (place-in file c n k) refl e
+
+-- ---- what belongs to a pair
+
+-- the part of the file that the code takes is the window
+pub window-is : (file : List ℕ) (k : ℕ) → take (256 + 8192 * k + 8192 - (256 + 8192 * k)) (drop (256 + 8192 * k) file) ≡ windowAt file k
+window-is file k =
+    let w : 256 + 8192 * k + 8192 - (256 + 8192 * k) ≡ 8192 = omega arith in ap (λ (m : ℕ). take m (drop (256 + 8192 * k) file)) w

@@ -7,16 +7,15 @@ use lib.Dec.{eqb, ltb, leb}
 use lib.ListN.{length, getD, take, drop}
 use Rattle.base.specs.Choice.{pick}
 use Rattle.base.specs.Bytes.{sameBytes}
-use Rattle.base.specs.Refusals.{wrongImage, wrongEntries}
+use Rattle.base.specs.Refusals.{wrongImage, wrongEntries, _when_, refusal, unless}
+use Rattle.base.specs.Words.{ascii}
 use Rattle.nib_catalogue.specs.declared.Pairs.{Pairs}
 use Rattle.nib_catalogue.specs.declared.Pairs.the-variants.{Count, Refused}
 use Rattle.nib_catalogue.specs.declared.Entry.{Entry}
 use Rattle.nib_catalogue.specs.declared.Entry.the-variants.{Absent, At}
 
--- MNIB-1541-RAW
 abbrev pub signature : List ℕ
-signature =
-    0x4D ∷ 0x4E ∷ 0x49 ∷ 0x42 ∷ 0x2D ∷ 0x31 ∷ 0x35 ∷ 0x34 ∷ 0x31 ∷ 0x2D ∷ 0x52 ∷ 0x41 ∷ 0x57 ∷ []
+signature = ascii "MNIB-1541-RAW"
 
 -- at least 256 bytes, and the signature
 unfoldable pub isNib : List ℕ → Bool
@@ -57,17 +56,20 @@ unfoldable pub anyFaulty : List ℕ → ℕ → Bool
 anyFaulty file zero = false
 anyFaulty file (suc n) = faulty file n || anyFaulty file n
 
--- there is a pair, none is faulty, and all windows lie in the file; longer files are accepted
-unfoldable pub catalogueRight : List ℕ → Bool
-catalogueRight file =
-    not (eqb (pairs file) 0) && (not (anyFaulty file (pairs file)) && leb (windowStart (pairs file)) (length file))
+-- why a catalogue is refused: it is no NIB file; it has no pair, a faulty one, or more windows than the file. Longer files are accepted
+unfoldable pub catalogueRefusal : List ℕ → ℕ
+catalogueRefusal file =
+    refusal (wrongImage when not (isNib file)
+    ∷ wrongEntries when eqb (pairs file) 0
+    ∷ wrongEntries when anyFaulty file (pairs file)
+    ∷ wrongEntries when ltb (length file) (windowStart (pairs file))
+    ∷ [])
 
 -- the number of pairs of a file, or its refusal
 unfoldable pub catalogueOf : List ℕ → Pairs
-catalogueOf file =
-    pick (isNib file) (pick (catalogueRight file) (Count (pairs file)) (Refused wrongEntries)) (Refused wrongImage)
+catalogueOf file = unless (catalogueRefusal file) Refused (Count (pairs file))
 
 -- which of the first n pairs has a code
-unfoldable pub placeOf : List ℕ → ℕ → ℕ → Entry
-placeOf file code zero = Absent
-placeOf file code (suc n) = pick (eqb (codeAt file n) code) (At n) (placeOf file code n)
+unfoldable pub entryWith : List ℕ → ℕ → ℕ → Entry
+entryWith file code zero = Absent
+entryWith file code (suc n) = pick (eqb (codeAt file n) code) (At n) (entryWith file code n)

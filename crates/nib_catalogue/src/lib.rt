@@ -1,8 +1,8 @@
 // The catalogue of a NIB file: pairs of a code, which is a slot plus 2, and a zone.
 ghost use mathlib.Core.Path.{_≡_};
-ghost use Prim.Native.Nat.{_≤_};
+ghost use Prim.Native.Nat.{_+_, _*_, _<_, _≤_};
 ghost use lib.ListN.{length};
-ghost use Rattle.nib_catalogue.specs.Catalogue.{isNib, pairs, among, anyFaulty, catalogueOf, placeOf};
+ghost use Rattle.nib_catalogue.specs.Catalogue.{isNib, pairs, among, anyFaulty, catalogueOf, entryWith, zoneAt, windowAt, windowStart};
 
 // The number of pairs in a file's catalogue, or the refusal's number.
 pub enum Pairs {
@@ -17,7 +17,8 @@ pub enum Entry {
     Refused(u8),
 }
 
-fn is_nib(image: &[u8]) -> bool
+// At least 256 bytes, and the signature.
+pub fn is_nib(image: &[u8]) -> bool
     ensures { λ r. ⌜ r ≡ isNib (now (image .entry)) ⌝ }
 {
     if image.len() < 256 {
@@ -101,7 +102,7 @@ pub fn read_catalogue(image: &[u8]) -> Pairs
 // Which of the first n pairs has a code.
 pub fn find_code(image: &[u8], code: u8, n: usize) -> Entry
     requires { ⌜ (n ≤ 120) × (256 ≤ length (now image)) ⌝ }
-    ensures { λ r. ⌜ r ≡ placeOf (now (image .entry)) code n ⌝ }
+    ensures { λ r. ⌜ r ≡ entryWith (now (image .entry)) code n ⌝ }
 {
     let mut k = n;
     while 0 < k {
@@ -111,4 +112,22 @@ pub fn find_code(image: &[u8], code: u8, n: usize) -> Entry
         }
     }
     Entry::Absent
+}
+
+// The zone of pair k.
+pub fn zone_at(image: &[u8], k: usize) -> u8
+    requires { ⌜ (k < 120) × (256 ≤ length (now image)) ⌝ }
+    ensures { λ r. ⌜ r ≡ zoneAt (now (image .entry)) k ⌝ }
+{
+    image[17 + 2 * k] % 4
+}
+
+// The window of pair k, as a part of the image.
+pub fn window_at(image: &[u8], k: usize) -> &[u8]
+    requires { ⌜ (k < 120) × (windowStart k + 8192 ≤ length (now image)) ⌝ }
+    ensures { λ r. ⌜ now r ≡ windowAt (now (image .entry)) k ⌝ }
+{
+    let start = 256 + 8192 * k;
+    let end = start + 8192;
+    &image[start..end]
 }

@@ -2,7 +2,7 @@
 --     better-irreflexive, better-total, better-transitive    `better` is an order
 --     best-first, best-maximum                               the best comes first
 --     largest-fraction, nearest, smallest                    the same in plain words
---     chosen-within                                          the chosen span lies within the limits
+--     chosen-within, chosen-is                               the chosen span lies within the limits; what is said of it
 --     zone-modulo, other-length                              the zone counts modulo 4; windows of another length
 use Prim.Native.Nat.{ℕ, zero, suc, _+_, _-_, _*_, _%_, _≤_, _<_}
 use mathlib.Core.Path.{_≡_, refl, sym, ap, _∙_}
@@ -13,13 +13,13 @@ use native.Mathlib.Decide.{decLt, ℕ-discrete}
 use native.Mathlib.Nat.{mod-mod}
 use native.Mathlib.Omega.{arith}
 use lib.Dec.{eqb, ltb}
-use lib.ListN.{length}
+use lib.ListN.{length, take}
 use borrow.Author.Tests.{eq-eqb, ne-eqb, lt-ltb, eqb-true, ltb-true}
 use Rattle.base.specs.Choice.{pick}
 use Rattle.base.proofs.Tests.{pick-case}
 use Rattle.base.proofs.Products.{le-le, lt-le, le-lt}
 use Rattle.nib_orbit.specs.Orbit.{lowest, highest, middle, observations, agreements, estimate, apart}
-use Rattle.nib_orbit.specs.Orbit.{share, better, bestOf, best, chosen, recovered}
+use Rattle.nib_orbit.specs.Orbit.{crossProduct, better, bestOf, best, chosenEstimate, chosen, recovered}
 use Rattle.nib_orbit.specs.declared.Estimate.{Estimate}
 use Rattle.nib_orbit.proofs.Spans.{limits}
 
@@ -133,11 +133,11 @@ module _ (m : ℕ) where
       (b .observations) h
 
   -- the larger fraction is better, and what is better has at least as large a fraction
-  pub better-larger : (a b : Estimate) → share b a < share a b → better m a b ≡ true
+  pub better-larger : (a b : Estimate) → crossProduct b a < crossProduct a b → better m a b ≡ true
   unfolding Precedes Before
   better-larger a b h = better-yes a b (inl h)
 
-  pub better-fraction : (a b : Estimate) → better m a b ≡ true → share b a ≤ share a b
+  pub better-fraction : (a b : Estimate) → better m a b ≡ true → crossProduct b a ≤ crossProduct a b
   unfolding Precedes Before
   better-fraction a b h = ⊎-elim (λ l. omega arith) (λ v. omega (arith, v .0)) (better-means a b h)
 
@@ -250,17 +250,24 @@ module _ (w : List ℕ) (zone : ℕ) where
   best-is = best-told w (middle zone) (lowest zone) (highest zone - lowest zone)
 
   -- the chosen span lies within the limits too
-  choice : (b : Bool) (x y : ℕ) → lowest zone ≤ x → x ≤ highest zone → lowest zone ≤ y → y ≤ highest zone
-      → (lowest zone ≤ pick b x y) × (pick b x y ≤ highest zone)
+  choice : (b : Bool) (x y : Estimate) → lowest zone ≤ x .span → x .span ≤ highest zone → lowest zone ≤ y .span → y .span ≤ highest zone
+      → (lowest zone ≤ pick b x y .span) × (pick b x y .span ≤ highest zone)
   choice true x y a c d e = (a, c)
   choice false x y a c d e = (d, e)
 
   pub chosen-within : (lowest zone ≤ chosen w zone) × (chosen w zone ≤ highest zone)
-  unfolding chosen
+  unfolding chosenEstimate
   chosen-within =
       let l = limits zone in
-      choice (ltb (best w zone .agreements * 4) (best w zone .observations)) (middle zone) (best w zone .span)
+      choice (ltb (best w zone .agreements * 4) (best w zone .observations)) (estimate w (middle zone)) (best w zone)
       (l .under) (l .over) (best-within .0) (best-within .1)
+
+-- the chosen estimate is what the window says of the chosen span
+pub chosen-is : (w : List ℕ) (zone : ℕ) → chosenEstimate w zone ≡ estimate w (chosen w zone)
+unfolding chosenEstimate
+chosen-is w zone =
+    told-of w (middle zone) (ltb (best w zone .agreements * 4) (best w zone .observations)) (estimate w (middle zone)) (best w zone) refl
+    (best-is w zone)
 
 module _ (w : List ℕ) (zone : ℕ) (h : length w ≡ 8192) (s : ℕ) (p : lowest zone ≤ s) (q : s ≤ highest zone) where
   -- it is better than every other span within the limits: by a larger fraction, or nearer the middle, or smaller
@@ -300,15 +307,15 @@ module _ (w : List ℕ) (zone : ℕ) (h : length w ≡ 8192) (s : ℕ) (p : lowe
       ]
 
   -- no span's fraction of agreements is larger
-  pub largest-fraction : share (estimate w s) (best w zone) ≤ share (best w zone) (estimate w s)
+  pub largest-fraction : crossProduct (estimate w s) (best w zone) ≤ crossProduct (best w zone) (estimate w s)
   unfolding Precedes Before
   largest-fraction =
       ⊎-elim
-      (λ e. omega (arith, ap (λ (x : Estimate). share x (best w zone)) e, ap (share (best w zone)) e))
+      (λ e. omega (arith, ap (λ (x : Estimate). crossProduct x (best w zone)) e, ap (crossProduct (best w zone)) e))
       (λ b. ⊎-elim (λ l. omega arith) (λ v. omega (arith, v .0)) b)
       ahead
 
-  module _ (e : share (estimate w s) (best w zone) ≡ share (best w zone) (estimate w s)) where
+  module _ (e : crossProduct (estimate w s) (best w zone) ≡ crossProduct (best w zone) (estimate w s)) where
     -- of those with the same fraction none is nearer the middle
     pub nearest : apart (best w zone .span) (middle zone) ≤ apart s (middle zone)
     unfolding Precedes Before
@@ -329,9 +336,13 @@ module _ (w : List ℕ) (zone : ℕ) (h : length w ≡ 8192) (s : ℕ) (p : lowe
 -- ---- the zone counts modulo 4, and a window of another length shows no ring
 
 module _ (w : List ℕ) (zone : ℕ) where
+  same-choice : chosenEstimate w (zone % 4) ≡ chosenEstimate w zone
+  unfolding chosenEstimate best lowest highest middle
+  same-choice = rw (mod-mod zone 4)
+
   pub zone-modulo : recovered w (zone % 4) ≡ recovered w zone
-  unfolding recovered chosen best lowest highest middle
-  zone-modulo = rw (mod-mod zone 4)
+  unfolding recovered
+  zone-modulo = ap (λ (e : Estimate). pick (eqb (length w) 8192) (take (e .span) w) []) same-choice
 
   pub other-length : (length w ≡ 8192 → ⊥) → recovered w zone ≡ []
   unfolding recovered

@@ -14,14 +14,16 @@ use lib.ListN.{length}
 use borrow.Author.Tests.{eq-eqb, ne-eqb, lt-ltb, le-ltb, le-leb, lt-leb}
 use Rattle.base.specs.Choice.{pick}
 use Rattle.nib_orbit.specs.Orbit.{lowest, highest, middle, observations, agreements, estimate, apart}
-use Rattle.nib_orbit.specs.Orbit.{share, better, winner, bestOf, best, chosen}
+use Rattle.nib_orbit.specs.Orbit.{crossProduct, better, winner, bestOf, best, chosenEstimate, chosen}
 use Rattle.nib_orbit.specs.declared.Estimate.{Estimate}
 use Rattle.nib_orbit.proofs.Spans.{limits}
 use Rattle.nib_orbit.proofs.Best.{better-larger, better-fraction, best-in, best-told}
 
 -- a takes the place of e
 abbrev overtakes : ℕ → Estimate → Estimate → Bool
-overtakes m a e = pick (eqb (share a e) (share e a)) (ltb (apart (a .span) m) (apart (e .span) m)) (ltb (share e a) (share a e))
+overtakes m a e =
+    pick (eqb (crossProduct a e) (crossProduct e a)) (ltb (apart (a .span) m) (apart (e .span) m))
+    (ltb (crossProduct e a) (crossProduct a e))
 
 abbrev step : ℕ → Estimate → Estimate → Estimate
 step m e a = pick (overtakes m a e) a e
@@ -48,18 +50,18 @@ module _ (m : ℕ) where
   overtakes-is a b h =
       let d = apart (a .span) m in
       let e = apart (b .span) m in
-      elim (ℕ-discrete (share a b) (share b a)) [
+      elim (ℕ-discrete (crossProduct a b) (crossProduct b a)) [
         | yes f ↦
             elim (ℕ-discrete d e) [
               | yes q ↦ rw (
-                eq-eqb (share a b) (share b a) f,
+                eq-eqb (crossProduct a b) (crossProduct b a) f,
                 eq-eqb d e q,
                 le-ltb (a .span) (b .span) (omega arith),
                 le-ltb d e (omega arith),
               )
-              | no q ↦ rw (eq-eqb (share a b) (share b a) f, ne-eqb d e q)
+              | no q ↦ rw (eq-eqb (crossProduct a b) (crossProduct b a) f, ne-eqb d e q)
             ]
-        | no f ↦ rw (ne-eqb (share a b) (share b a) f)
+        | no f ↦ rw (ne-eqb (crossProduct a b) (crossProduct b a) f)
       ]
 
   -- a span without agreements leaves the start; one with agreements takes its place
@@ -136,7 +138,7 @@ module _ (m : ℕ) where
 
 -- the span that the Rust takes is the chosen one
 pub original-chosen : (w : List ℕ) (zone : ℕ) → length w ≡ 8192 → originalSpan w zone ≡ chosen w zone
-unfolding originalSpan chosen best Found
+unfolding originalSpan chosenEstimate best Found
 original-chosen w zone h =
     let l = limits zone in
     let m = middle zone in
@@ -147,16 +149,16 @@ original-chosen w zone h =
     ⊎-elim
     (λ p.
     let z : t .agreements ≡ 0 = p .1 in
-    ap (taken m) (p .0) ∙ sym (ap (λ (c : Bool). pick c m (t .span)) (lt-ltb (t .agreements * 4) (t .observations) (omega arith))))
+    ap (taken m) (p .0) ∙ sym (ap (λ (c : Bool). pick c (estimate w m) t .span) (lt-ltb (t .agreements * 4) (t .observations) (omega arith))))
     (λ p.
     ap (taken m) (p .0)
     ∙ elim (decLt (t .agreements * 4) (t .observations)) [
       | yes k ↦
           ap (λ (c : Bool). pick c (t .span) m) (lt-leb (t .observations) (t .agreements * 4) k)
-          ∙ sym (ap (λ (c : Bool). pick c m (t .span)) (lt-ltb (t .agreements * 4) (t .observations) k))
+          ∙ sym (ap (λ (c : Bool). pick c (estimate w m) t .span) (lt-ltb (t .agreements * 4) (t .observations) k))
       | no k ↦
           let g : t .observations ≤ t .agreements * 4 = omega arith in
           ap (λ (c : Bool). pick c (t .span) m) (le-leb (t .observations) (t .agreements * 4) g)
-          ∙ sym (ap (λ (c : Bool). pick c m (t .span)) (le-ltb (t .agreements * 4) (t .observations) g))
+          ∙ sym (ap (λ (c : Bool). pick c (estimate w m) t .span) (le-ltb (t .agreements * 4) (t .observations) g))
     ])
     (found m w (lowest zone) (highest zone - lowest zone) (omega arith))

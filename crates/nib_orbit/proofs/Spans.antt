@@ -9,7 +9,8 @@ use lib.Dec.{ltb, lit<, lit≤}
 use native.Mathlib.Nat.{mod-lt}
 use lib.ListN.{length, getD}
 use borrow.Author.Tests.{eq-eqb, ne-eqb, lt-ltb, le-ltb}
-use Rattle.nib_orbit.specs.Orbit.{lowest, highest, middle, agreeing, agreements, estimate, apart, share, better, bestOf, best, chosen}
+use Rattle.nib_orbit.specs.Orbit.{lowest, highest, middle, agreeing, agreements, estimate, apart}
+use Rattle.nib_orbit.specs.Orbit.{crossProduct, better, bestOf, best, chosenEstimate}
 use Rattle.nib_orbit.specs.declared.Estimate.{Estimate}
 
 -- ---- counting agreements
@@ -38,18 +39,18 @@ estimate-is w span a h e = rw (e, h)
 -- ---- the order of estimates: each way that the code goes
 
 module _ (m : ℕ) (a b : Estimate) where
-  pub ranks-by-fraction : (share a b ≡ share b a → ⊥) → ltb (share b a) (share a b) ≡ better m a b
+  pub ranks-by-fraction : (crossProduct a b ≡ crossProduct b a → ⊥) → ltb (crossProduct b a) (crossProduct a b) ≡ better m a b
   unfolding better
-  ranks-by-fraction h = rw (ne-eqb (share a b) (share b a) h)
+  ranks-by-fraction h = rw (ne-eqb (crossProduct a b) (crossProduct b a) h)
 
-  module _ (h : share a b ≡ share b a) (d e : ℕ) (q : d ≡ apart (a .span) m) (r : e ≡ apart (b .span) m) where
+  module _ (h : crossProduct a b ≡ crossProduct b a) (d e : ℕ) (q : d ≡ apart (a .span) m) (r : e ≡ apart (b .span) m) where
     pub ranks-by-middle : (d ≡ e → ⊥) → ltb d e ≡ better m a b
     unfolding better
-    ranks-by-middle n = rw (eq-eqb (share a b) (share b a) h, ← q, ← r, ne-eqb d e n)
+    ranks-by-middle n = rw (eq-eqb (crossProduct a b) (crossProduct b a) h, ← q, ← r, ne-eqb d e n)
 
     pub ranks-by-size : d ≡ e → ltb (a .span) (b .span) ≡ better m a b
     unfolding better
-    ranks-by-size n = rw (eq-eqb (share a b) (share b a) h, ← q, ← r, eq-eqb d e n)
+    ranks-by-size n = rw (eq-eqb (crossProduct a b) (crossProduct b a) h, ← q, ← r, eq-eqb d e n)
 
 -- ---- the search for the best: its start, and a turn that takes the next span or keeps what it has
 
@@ -102,10 +103,10 @@ module _ (w : List ℕ) (zone low high mid : ℕ) (x : low ≡ lowest zone) (y :
   unfolding best
   is-best = rw (← x, ← y, ← z) e
 
-  pub choose-middle : t .agreements * 4 < t .observations → mid ≡ chosen w zone
-  unfolding chosen
-  choose-middle g = rw (← is-best, lt-ltb (t .agreements * 4) (t .observations) g, z)
+  pub choose-middle : (m : Estimate) → m ≡ estimate w mid → t .agreements * 4 < t .observations → m ≡ chosenEstimate w zone
+  unfolding chosenEstimate
+  choose-middle m f g = f ∙ rw (← is-best, lt-ltb (t .agreements * 4) (t .observations) g, z)
 
-  pub choose-best : t .observations ≤ t .agreements * 4 → t .span ≡ chosen w zone
-  unfolding chosen
+  pub choose-best : t .observations ≤ t .agreements * 4 → t ≡ chosenEstimate w zone
+  unfolding chosenEstimate
   choose-best g = rw (← is-best, le-ltb (t .agreements * 4) (t .observations) g)

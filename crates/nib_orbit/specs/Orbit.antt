@@ -42,13 +42,15 @@ apart a b = (a - b) + (b - a)
 abbrev pub nearer : ℕ → ℕ → ℕ → Bool
 nearer mid s t = pick (eqb (apart s mid) (apart t mid)) (ltb s t) (ltb (apart s mid) (apart t mid))
 
--- the fraction of an estimate's observations that agree, to be compared with that of another by cross products
-abbrev pub share : Estimate → Estimate → ℕ
-share a b = a .agreements * b .observations
+-- of two estimates: the first one's agreements times the other one's observations; the larger cross product has the larger fraction of
+-- observations that agree
+abbrev pub crossProduct : Estimate → Estimate → ℕ
+crossProduct a b = a .agreements * b .observations
 
 -- an estimate is better than another: by the larger fraction, and at equal fractions by the span nearer the middle
 unfoldable pub better : ℕ → Estimate → Estimate → Bool
-better mid a b = pick (eqb (share a b) (share b a)) (nearer mid (a .span) (b .span)) (ltb (share b a) (share a b))
+better mid a b =
+    pick (eqb (crossProduct a b) (crossProduct b a)) (nearer mid (a .span) (b .span)) (ltb (crossProduct b a) (crossProduct a b))
 
 -- the better of two, and the best of the n + 1 spans from low on
 abbrev pub winner : ℕ → Estimate → Estimate → Estimate
@@ -62,10 +64,14 @@ bestOf window mid low (suc n) = winner mid (estimate window (low + suc n)) (best
 unfoldable pub best : List ℕ → ℕ → Estimate
 best window zone = bestOf window (middle zone) (lowest zone) (highest zone - lowest zone)
 
--- the span that is taken: the best, or the middle where fewer than a quarter of the best one's observations agree
-unfoldable pub chosen : List ℕ → ℕ → ℕ
-chosen window zone =
-    pick (ltb (best window zone .agreements * 4) (best window zone .observations)) (middle zone) (best window zone .span)
+-- the estimate that is taken: the best, or that of the middle where fewer than a quarter of the best one's observations agree
+unfoldable pub chosenEstimate : List ℕ → ℕ → Estimate
+chosenEstimate window zone =
+    pick (ltb (best window zone .agreements * 4) (best window zone .observations)) (estimate window (middle zone)) (best window zone)
+
+-- its span
+abbrev pub chosen : List ℕ → ℕ → ℕ
+chosen window zone = chosenEstimate window zone .span
 
 -- the ring that a window shows: its first bytes, as many as the chosen span; a window of another length than 8,192 shows none
 unfoldable pub recovered : List ℕ → ℕ → List ℕ

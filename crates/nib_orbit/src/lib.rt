@@ -8,7 +8,7 @@ ghost use Rattle.nib_orbit.specs.Orbit.{
   apart as apartOf,
   better,
   bestOf,
-  chosen,
+  chosenEstimate,
   recovered,
 };
 
@@ -26,7 +26,7 @@ const HIGHEST: [usize; 4] = [6311, 6726, 7201, 7824];
 const MIDDLE: [usize; 4] = [6247, 6662, 7137, 7720];
 
 // The pairs of equal bytes of a window that lie a span apart.
-pub fn agreements(window: &[u8], span: usize) -> usize
+fn agreements(window: &[u8], span: usize) -> usize
     requires { ⌜ span ≤ length (now window) ⌝ }
     ensures { λ r. ⌜ (r ≡ agreementsOf (now (window .entry)) span) × (r ≤ length (now (window .entry)) - span) ⌝ }
 {
@@ -96,10 +96,10 @@ fn best_span(window: &[u8], middle: usize, low: usize, high: usize) -> Estimate
     best
 }
 
-// The span that is taken for one turn of the disk.
-fn choose_span(window: &[u8], zone: u8) -> usize
+// The span that is taken for one turn of the disk, and what speaks for it.
+pub fn estimate_orbit(window: &[u8], zone: u8) -> Estimate
     requires { ⌜ length (now window) ≡ 8192 ⌝ }
-    ensures { λ r. ⌜ (r ≡ chosen (now (window .entry)) zone) × (r ≤ 8192) ⌝ }
+    ensures { λ r. ⌜ (r ≡ chosenEstimate (now (window .entry)) zone) × (r .span ≤ 8192) ⌝ }
 {
     let z = (zone % 4) as usize;
     let low = LOWEST[z];
@@ -107,9 +107,9 @@ fn choose_span(window: &[u8], zone: u8) -> usize
     let middle = MIDDLE[z];
     let best = best_span(window, middle, low, high);
     if best.agreements * 4 < best.observations {
-        return middle;
+        return measure(window, middle);
     }
-    best.span
+    best
 }
 
 // The recovered ring, as the first bytes of the window; an empty part of a window of another length than 8,192.
@@ -119,6 +119,7 @@ pub fn recover_orbit(window: &[u8], zone: u8) -> &[u8]
     if window.len() != 8192 {
         return &window[0..0];
     }
-    let span = choose_span(window, zone);
+    let chosen = estimate_orbit(window, zone);
+    let span = chosen.span;
     &window[0..span]
 }

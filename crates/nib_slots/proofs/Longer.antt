@@ -6,11 +6,11 @@ use mathlib.Core.List.{List, _++_}
 use native.Mathlib.Omega.{arith}
 use lib.ListN.{length, getD, take, drop, length-append, length-drop, List·getD-append}
 use lib.Seq.{drop-append-le, take-append-le}
-use borrow.Author.Tests.{le-leb}
+use borrow.Author.Tests.{le-leb, le-ltb}
 use Rattle.nib_orbit.specs.Orbit.{chosen, recovered}
 use Rattle.nib_catalogue.specs.Catalogue.{isNib, codeAt, zoneAt, windowStart, windowAt, pairsFrom, pairs}
-use Rattle.nib_catalogue.specs.Catalogue.{among, anyFaulty, catalogueRight, catalogueOf, placeOf}
-use Rattle.nib_slots.specs.Slots.{entryOf, ringBy, ringOf, zoneBy, zoneOf, slotBy, slotOf}
+use Rattle.nib_catalogue.specs.Catalogue.{among, anyFaulty, catalogueRefusal, catalogueOf, entryWith}
+use Rattle.nib_slots.specs.Slots.{entryOf, ringBy, ringOf, zoneBy, slotZone, slotBy, slotAnswer}
 use Rattle.nib_catalogue.specs.declared.Pairs.the-variants.{Count}
 use Rattle.nib_catalogue.specs.declared.Entry.{Entry}
 use Rattle.nib_catalogue.specs.declared.Entry.the-variants.{At, Absent, Refused}
@@ -41,8 +41,8 @@ module _ (file t : List ℕ) (h : 256 ≤ length file) where
   faults-same zero l = refl
   faults-same (suc n) l = rw (code-same n (omega arith), among-same (codeAt file n) n (omega arith), faults-same n (omega arith))
 
-  place-same : (c n : ℕ) → n ≤ 120 → placeOf (file ++ t) c n ≡ placeOf file c n
-  unfolding placeOf
+  place-same : (c n : ℕ) → n ≤ 120 → entryWith (file ++ t) c n ≡ entryWith file c n
+  unfolding entryWith
   place-same c zero l = refl
   place-same c (suc n) l = rw (code-same n (omega arith), place-same c n (omega arith))
 
@@ -56,16 +56,12 @@ module _ (file t : List ℕ) (h : 256 ≤ length file) where
       let e = length-append file t in
       rw (le-leb 256 (length (file ++ t)) (omega arith), le-leb 256 (length file) h, take-append-le 13 file t (omega arith))
 
-  right-same : pairs file ≤ 120 → 256 + 8192 * pairs file ≤ length file → catalogueRight (file ++ t) ≡ catalogueRight file
-  unfolding catalogueRight
-  right-same l w =
-      let e = length-append file t in
-      let a = le-leb (256 + 8192 * pairs file) (length (file ++ t)) (omega arith) in
-      rw (all-pairs, faults-same (pairs file) l, a, le-leb (256 + 8192 * pairs file) (length file) w)
-
   catalogue-same : pairs file ≤ 120 → 256 + 8192 * pairs file ≤ length file → catalogueOf (file ++ t) ≡ catalogueOf file
-  unfolding catalogueOf
-  catalogue-same l w = rw (nib-same, right-same l w, all-pairs)
+  unfolding catalogueOf catalogueRefusal
+  catalogue-same l w =
+      let e = length-append file t in
+      let a = le-ltb (length (file ++ t)) (256 + 8192 * pairs file) (omega arith) in
+      rw (nib-same, all-pairs, faults-same (pairs file) l, a, le-ltb (length file) (256 + 8192 * pairs file) w)
 
   -- the window and the zone of a pair that lies in the file
   module _ (k : ℕ) (i : Held file k) where
@@ -111,10 +107,10 @@ module _ (file t : List ℕ) (n : ℕ) (q : catalogueOf file ≡ Count n) where
     unfolding ringOf
     longer-ring = ap (ringBy (file ++ t)) entry-same ∙ ring-by (entryOf file slot) refl
 
-    pub longer-zone : zoneOf (file ++ t) slot ≡ zoneOf file slot
-    unfolding zoneOf
+    pub longer-zone : slotZone (file ++ t) slot ≡ slotZone file slot
+    unfolding slotZone
     longer-zone = ap (zoneBy (file ++ t)) entry-same ∙ zone-by (entryOf file slot) refl
 
-    pub longer-slot : slotOf (file ++ t) slot ≡ slotOf file slot
-    unfolding slotOf
+    pub longer-slot : slotAnswer (file ++ t) slot ≡ slotAnswer file slot
+    unfolding slotAnswer
     longer-slot = ap (slotBy (file ++ t)) entry-same ∙ slot-by (entryOf file slot) refl

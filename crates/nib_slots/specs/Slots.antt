@@ -5,7 +5,7 @@ use lib.Dec.{ltb}
 use Rattle.base.specs.Choice.{pick}
 use Rattle.base.specs.Refusals.{wrongEntries}
 use Rattle.nib_orbit.specs.Orbit.{chosen, recovered}
-use Rattle.nib_catalogue.specs.Catalogue.{catalogueOf, placeOf, zoneAt, windowAt, windowStart}
+use Rattle.nib_catalogue.specs.Catalogue.{catalogueOf, entryWith, zoneAt, windowAt, windowStart}
 use Rattle.nib_catalogue.specs.declared.Pairs.{Pairs}
 use Rattle.nib_catalogue.specs.declared.Pairs.the-variants.{Count, Refused as NoCatalogue}
 use Rattle.nib_catalogue.specs.declared.Entry.{Entry}
@@ -18,7 +18,7 @@ use Rattle.nib_slots.specs.declared.NibSlot.the-variants.{Ring, Empty, R
 -- the pair of a slot: the file's own refusal, and then that of a slot above 83
 abbrev pub entryIn : List ℕ → ℕ → Pairs → Entry
 entryIn file slot (NoCatalogue number) = Refused number
-entryIn file slot (Count n) = pick (ltb 83 slot) (Refused wrongEntries) (placeOf file (slot + 2) n)
+entryIn file slot (Count n) = pick (ltb 83 slot) (Refused wrongEntries) (entryWith file (slot + 2) n)
 
 unfoldable pub entryOf : List ℕ → ℕ → Entry
 entryOf file slot = entryIn file slot (catalogueOf file)
@@ -38,8 +38,8 @@ zoneBy file (At k) = Is (zoneAt file k)
 zoneBy file Absent = Is 0
 zoneBy file (Refused number) = NoZone number
 
-unfoldable pub zoneOf : List ℕ → ℕ → Zone
-zoneOf file slot = zoneBy file (entryOf file slot)
+unfoldable pub slotZone : List ℕ → ℕ → Zone
+slotZone file slot = zoneBy file (entryOf file slot)
 
 -- both at once: where the ring starts in the file, how long it is, and its zone
 abbrev pub slotBy : List ℕ → Entry → NibSlot
@@ -47,5 +47,5 @@ slotBy file (At k) = Ring (windowStart k) (chosen (windowAt file k) (zoneAt file
 slotBy file Absent = Empty
 slotBy file (Refused number) = NoSlot number
 
-unfoldable pub slotOf : List ℕ → ℕ → NibSlot
-slotOf file slot = slotBy file (entryOf file slot)
+unfoldable pub slotAnswer : List ℕ → ℕ → NibSlot
+slotAnswer file slot = slotBy file (entryOf file slot)

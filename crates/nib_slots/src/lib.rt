@@ -1,8 +1,8 @@
-// NIB files: the ring and the zone of a slot. The crate `catalogue` reads the list of the captures.
+// NIB files: the ring and the zone of a slot. The crate `nib_catalogue` reads the list of the captures.
 use nib_catalogue::Entry;
 use nib_catalogue::Pairs;
 ghost use mathlib.Core.Path.{_≡_};
-ghost use Rattle.nib_slots.specs.Slots.{entryOf, ringOf, zoneOf, slotOf};
+ghost use Rattle.nib_slots.specs.Slots.{entryOf, ringOf, slotZone, slotAnswer};
 
 // The zone of a slot, or the refusal's number.
 pub enum Zone {
@@ -35,11 +35,11 @@ fn entry_of(image: &[u8], slot: usize) -> Entry
 
 // The zone of a slot, or the refusal's number.
 pub fn nib_zone(image: &[u8], slot: usize) -> Zone
-    ensures { λ r. ⌜ r ≡ zoneOf (now (image .entry)) slot ⌝ }
+    ensures { λ r. ⌜ r ≡ slotZone (now (image .entry)) slot ⌝ }
 {
     let entry = entry_of(image, slot);
     match entry {
-        Entry::At(k) => Zone::Is(image[17 + 2 * k] % 4),
+        Entry::At(k) => Zone::Is(nib_catalogue::zone_at(image, k)),
         Entry::Absent => Zone::Is(0),
         Entry::Refused(number) => Zone::Refused(number),
     }
@@ -52,10 +52,8 @@ pub fn nib_ring(image: &[u8], slot: usize) -> &[u8]
     let entry = entry_of(image, slot);
     match entry {
         Entry::At(k) => {
-            let at = 256 + 8192 * k;
-            let end = at + 8192;
-            let zone = image[17 + 2 * k] % 4;
-            nib_orbit::recover_orbit(&image[at..end], zone)
+            let zone = nib_catalogue::zone_at(image, k);
+            nib_orbit::recover_orbit(nib_catalogue::window_at(image, k), zone)
         }
         Entry::Absent => &image[0..0],
         Entry::Refused(_) => &image[0..0],
@@ -64,16 +62,14 @@ pub fn nib_ring(image: &[u8], slot: usize) -> &[u8]
 
 // Where the ring of a slot starts in the image, its length and its zone.
 pub fn nib_slot(image: &[u8], slot: usize) -> NibSlot
-    ensures { λ r. ⌜ r ≡ slotOf (now (image .entry)) slot ⌝ }
+    ensures { λ r. ⌜ r ≡ slotAnswer (now (image .entry)) slot ⌝ }
 {
     let entry = entry_of(image, slot);
     match entry {
         Entry::At(k) => {
-            let at = 256 + 8192 * k;
-            let end = at + 8192;
-            let zone = image[17 + 2 * k] % 4;
-            let ring = nib_orbit::recover_orbit(&image[at..end], zone);
-            NibSlot::Ring(at, ring.len(), zone)
+            let zone = nib_catalogue::zone_at(image, k);
+            let chosen = nib_orbit::estimate_orbit(nib_catalogue::window_at(image, k), zone);
+            NibSlot::Ring(256 + 8192 * k, chosen.span, zone)
         }
         Entry::Absent => NibSlot::Empty,
         Entry::Refused(number) => NibSlot::Refused(number),

@@ -15,8 +15,9 @@ use Rattle.base.specs.Lists.{joined}
 use Rattle.base.specs.Refusals.{wrongSum, ringTooLong, noRing, noRoom}
 use Rattle.base.proofs.Lists.{length-tab, length-joined, joined-next}
 use Rattle.base.proofs.Pieces.{put-turn}
-use Rattle.nib_write.specs.Encoding.{sumTo, anyLong, ringsTo, pairOf, ringIn, repeated, windowOf}
-use Rattle.nib_write.specs.Encoding.{mark, fileOf, sizeOf, filled, encodedOf, outAfter}
+use Rattle.nib_write.specs.Encoding.{sumTo, anyLong, ringsTo, pairOf, ringIn, repeated, slotWindow}
+use Rattle.nib_write.specs.Encoding.{mark, fileOf, sizeOf, filled, encodingRefusal, encodedOf, outAfter}
+use Rattle.nib_write.specs.declared.Encoded.{Encoded}
 use Rattle.nib_write.specs.declared.Encoded.the-variants.{Written, Refused}
 
 -- ---- the slots
@@ -116,25 +117,25 @@ unfolding repeated
 repeated-length ring = length-tab 8192 (λ i. getD ring (i % length ring) 0)
 
 module _ (lengths rings : List ℕ) where
-  pub window-none : (k : ℕ) → getD lengths k 0 ≡ 0 → windowOf lengths rings k ≡ []
+  pub window-none : (k : ℕ) → getD lengths k 0 ≡ 0 → slotWindow lengths rings k ≡ []
   window-none k e = rw (eq-eqb (getD lengths k 0) 0 e)
 
-  pub window-one : (k : ℕ) → (getD lengths k 0 ≡ 0 → ⊥) → windowOf lengths rings k ≡ repeated (ringIn lengths rings k)
+  pub window-one : (k : ℕ) → (getD lengths k 0 ≡ 0 → ⊥) → slotWindow lengths rings k ≡ repeated (ringIn lengths rings k)
   window-one k e = rw (ne-eqb (getD lengths k 0) 0 e)
 
   window-more : (b : Bool) (r : List ℕ) (n : ℕ) → length r ≡ 8192 → 8192 * pick b n (suc n) ≡ 8192 * n + length (pick b [] r)
   window-more true r n h = omega arith
   window-more false r n h = omega arith
 
-  pub window-length : (k : ℕ) → 8192 * ringsTo lengths (suc k) ≡ 8192 * ringsTo lengths k + length (windowOf lengths rings k)
+  pub window-length : (k : ℕ) → 8192 * ringsTo lengths (suc k) ≡ 8192 * ringsTo lengths k + length (slotWindow lengths rings k)
   unfolding ringsTo
   window-length k =
       window-more (eqb (getD lengths k 0) 0) (repeated (ringIn lengths rings k)) (ringsTo lengths k)
       (repeated-length (ringIn lengths rings k))
 
-  pub windows-length : (k : ℕ) → length (joined k (windowOf lengths rings)) ≡ 8192 * ringsTo lengths k
+  pub windows-length : (k : ℕ) → length (joined k (slotWindow lengths rings)) ≡ 8192 * ringsTo lengths k
   windows-length k =
-      length-joined (windowOf lengths rings) (λ n. 8192 * ringsTo lengths n) (omega (arith, rings-start lengths)) window-length k
+      length-joined (slotWindow lengths rings) (λ n. 8192 * ringsTo lengths n) (omega (arith, rings-start lengths)) window-length k
 
 -- ---- each way that the code goes
 
@@ -167,20 +168,20 @@ module _ (lengths zones : List ℕ) (out₀ out : List ℕ) (at k : ℕ) (a : at
   )
 
 module _ (lengths rings : List ℕ) (out₀ out : List ℕ) (at k : ℕ) (a : at ≡ 256 + 8192 * ringsTo lengths k)
-    (e : out ≡ sets out₀ 256 (joined k (windowOf lengths rings))) where
-  windows-turn : (out′ : List ℕ) → out′ ≡ sets out at (windowOf lengths rings k)
-      → out′ ≡ sets out₀ 256 (joined (k + 1) (windowOf lengths rings))
+    (e : out ≡ sets out₀ 256 (joined k (slotWindow lengths rings))) where
+  windows-turn : (out′ : List ℕ) → out′ ≡ sets out at (slotWindow lengths rings k)
+      → out′ ≡ sets out₀ 256 (joined (k + 1) (slotWindow lengths rings))
   windows-turn out′ f =
-      put-turn out₀ out out′ (joined k (windowOf lengths rings)) (windowOf lengths rings k) 256 at (8192 * ringsTo lengths k) e
+      put-turn out₀ out out′ (joined k (slotWindow lengths rings)) (slotWindow lengths rings k) 256 at (8192 * ringsTo lengths k) e
       (windows-length lengths rings k) a f
-      ∙ ap (sets out₀ 256) (sym (joined-next k (windowOf lengths rings)))
+      ∙ ap (sets out₀ 256) (sym (joined-next k (slotWindow lengths rings)))
 
-  pub windows-skip : getD lengths k 0 ≡ 0 → out ≡ sets out₀ 256 (joined (k + 1) (windowOf lengths rings))
+  pub windows-skip : getD lengths k 0 ≡ 0 → out ≡ sets out₀ 256 (joined (k + 1) (slotWindow lengths rings))
   windows-skip z = windows-turn out (sym (ap (sets out at) (window-none lengths rings k z)))
 
   pub windows-one : (out′ : List ℕ) (from n : ℕ) → n ≡ getD lengths k 0 → (n ≡ 0 → ⊥) → from ≡ sumTo lengths k
       → out′ ≡ sets out at (repeated (take (from + n - from) (drop from rings)))
-      → out′ ≡ sets out₀ 256 (joined (k + 1) (windowOf lengths rings))
+      → out′ ≡ sets out₀ 256 (joined (k + 1) (slotWindow lengths rings))
   windows-one out′ from n q z s f =
       let w : from + n - from ≡ n = omega arith in
       let p = window-one lengths rings k (λ y. z (q ∙ y)) in
@@ -197,14 +198,14 @@ module _ (lengths zones rings : List ℕ) where
 
   pub file-done : (out l1 l2 l3 l4 : List ℕ) (at : ℕ) → sizeOf lengths ≤ length out
       → l1 ≡ sets out 0 mark → l2 ≡ sets l1 16 (joined 84 (pairOf lengths zones))
-      → at ≡ 16 + 2 * ringsTo lengths 84 → l3 ≡ sets l2 at (replicate (256 - at) 0) → l4 ≡ sets l3 256 (joined 84 (windowOf lengths rings))
+      → at ≡ 16 + 2 * ringsTo lengths 84 → l3 ≡ sets l2 at (replicate (256 - at) 0) → l4 ≡ sets l3 256 (joined 84 (slotWindow lengths rings))
       → l4 ≡ filled lengths zones rings out
   unfolding fileOf
   file-done out l1 l2 l3 l4 at h e1 e2 a e3 e4 =
       let ps = joined 84 (pairOf lengths zones) in
       let n = ringsTo lengths 84 in
       let zs = replicate {A = ℕ} (240 - 2 * n) 0 in
-      let ws = joined 84 (windowOf lengths rings) in
+      let ws = joined 84 (slotWindow lengths rings) in
       let le : n ≤ 84 = rings-le lengths 84 in
       let w : 256 - at ≡ 240 - 2 * n = omega arith in
       let s2 : length (mark ++ ps) ≡ 16 + 2 * n = omega (arith, pairs-length lengths zones 84) in
@@ -222,36 +223,32 @@ module _ (lengths zones rings : List ℕ) where
 -- ---- the refusals in their order
 
 module _ (lengths zones rings out : List ℕ) where
-  out-refused : (r : ℕ) → Refused r ≡ encodedOf lengths rings out
-      → (Refused r ≡ encodedOf lengths rings out) × (out ≡ outAfter lengths zones rings out)
-  unfolding outAfter
-  out-refused r e = (e, rw (← e))
+  abbrev Answers : Encoded → List ℕ → Type 0
+  Answers told after = (told ≡ encodedOf lengths rings out) × (after ≡ outAfter lengths zones rings out)
 
-  pub enc-sum : eqb (sumTo lengths 84) (length rings) ≡ false
-      → (Refused wrongSum ≡ encodedOf lengths rings out) × (out ≡ outAfter lengths zones rings out)
-  unfolding encodedOf
-  enc-sum e = out-refused wrongSum (rw e)
+  refused-by : (r : ℕ) → encodingRefusal lengths rings out ≡ suc r → Answers (Refused (suc r)) out
+  unfolding encodedOf outAfter
+  refused-by r e = (rw e, rw e)
+
+  pub enc-sum : eqb (sumTo lengths 84) (length rings) ≡ false → Answers (Refused wrongSum) out
+  enc-sum e = refused-by _ (unfold encodingRefusal in rw e)
 
   module _ (s : eqb (sumTo lengths 84) (length rings) ≡ true) where
-    pub enc-long : anyLong lengths 84 ≡ true
-        → (Refused ringTooLong ≡ encodedOf lengths rings out) × (out ≡ outAfter lengths zones rings out)
-    unfolding encodedOf
-    enc-long e = out-refused ringTooLong (rw (s, e))
+    pub enc-long : anyLong lengths 84 ≡ true → Answers (Refused ringTooLong) out
+    enc-long e = refused-by _ (unfold encodingRefusal in rw (s, e))
 
     module _ (l : anyLong lengths 84 ≡ false) (n : ℕ) (q : n ≡ ringsTo lengths 84) where
-      pub enc-none : n ≡ 0 → (Refused noRing ≡ encodedOf lengths rings out) × (out ≡ outAfter lengths zones rings out)
-      unfolding encodedOf
-      enc-none e = out-refused noRing (rw (s, l, ← q, eq-eqb n 0 e))
+      pub enc-none : n ≡ 0 → Answers (Refused noRing) out
+      enc-none e = refused-by _ (unfold encodingRefusal in rw (s, l, ← q, eq-eqb n 0 e))
 
       module _ (z : n ≡ 0 → ⊥) where
-        pub enc-room : length out < 256 + 8192 * n
-            → (Refused noRoom ≡ encodedOf lengths rings out) × (out ≡ outAfter lengths zones rings out)
-        unfolding encodedOf
-        enc-room h = out-refused noRoom (rw (s, l, ← q, ne-eqb n 0 z, lt-ltb (length out) (256 + 8192 * n) h))
+        pub enc-room : length out < 256 + 8192 * n → Answers (Refused noRoom) out
+        enc-room h =
+            refused-by _ (unfold encodingRefusal in rw (s, l, ← q, ne-eqb n 0 z, lt-ltb (length out) (256 + 8192 * n) h))
 
         pub enc-done : 256 + 8192 * n ≤ length out → (out′ : List ℕ) → out′ ≡ filled lengths zones rings out
-            → (Written (256 + 8192 * n) ≡ encodedOf lengths rings out) × (out′ ≡ outAfter lengths zones rings out)
-        unfolding encodedOf outAfter
+            → Answers (Written (256 + 8192 * n)) out′
+        unfolding encodedOf outAfter encodingRefusal
         enc-done h out′ e =
             let b = le-ltb (length out) (256 + 8192 * n) h in
             (rw (s, l, ← q, ne-eqb n 0 z, b), e ∙ rw (s, l, ← q, ne-eqb n 0 z, b))

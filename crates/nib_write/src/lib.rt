@@ -2,7 +2,7 @@
 ghost use mathlib.Core.Path.{_≡_};
 ghost use Prim.Native.Nat.{_+_, _*_, _%_, _<_, _≤_};
 ghost use lib.Dec.{eqb};
-ghost use lib.ListN.{length, getD, replicate};
+ghost use lib.ListN.{length, getD};
 ghost use lib.Seq.{sets};
 ghost use Rattle.base.specs.Lists.{joined};
 ghost use Rattle.nib_write.specs.Encoding.{
@@ -11,7 +11,7 @@ ghost use Rattle.nib_write.specs.Encoding.{
   ringsTo,
   pairOf,
   repeated,
-  windowOf,
+  slotWindow,
   sizeOf,
   filled,
   encodedOf,
@@ -90,30 +90,6 @@ fn count_rings(lengths: &[u64]) -> usize
     count
 }
 
-// Bytes stored from a place on.
-fn put_bytes(out: &mut [u8], at: usize, bytes: &[u8])
-    requires { ⌜ at + length (now bytes) ≤ length (now out) ⌝ }
-    ensures { λ r. ⌜ now (out .exit) ≡ sets (now (out .entry)) at (now (bytes .entry)) ⌝ }
-{
-    let mut i: usize = 0;
-    while i < bytes.len() {
-        out[at + i] = bytes[i];
-        i += 1;
-    }
-}
-
-// Zeros stored from a place on.
-fn put_zeros(out: &mut [u8], at: usize, n: usize)
-    requires { ⌜ at + n ≤ length (now out) ⌝ }
-    ensures { λ r. ⌜ now (out .exit) ≡ sets (now (out .entry)) at (replicate n 0) ⌝ }
-{
-    let mut i: usize = 0;
-    while i < n {
-        out[at + i] = 0;
-        i += 1;
-    }
-}
-
 // The pair of a slot stored, where it has a ring; the place behind it.
 fn put_pair(out: &mut [u8], at: usize, lengths: &[u64], zones: &[u8], slot: usize) -> usize
     requires { ⌜ (at + 2 ≤ length (now out)) × (slot < 84) × (at ≤ 1000) ⌝ }
@@ -159,7 +135,7 @@ fn put_window(out: &mut [u8], at: usize, ring: &[u8])
 // The windows of all slots, one after the other from byte 256 on.
 fn put_windows(out: &mut [u8], lengths: &[u64], rings: &[u8])
     requires { ⌜ (sumTo (now lengths) 84 ≡ length (now rings)) × (sizeOf (now lengths) ≤ length (now out)) ⌝ }
-    ensures { λ r. ⌜ now (out .exit) ≡ sets (now (out .entry)) 256 (joined 84 (windowOf (now (lengths .entry)) (now (rings .entry)))) ⌝ }
+    ensures { λ r. ⌜ now (out .exit) ≡ sets (now (out .entry)) 256 (joined 84 (slotWindow (now (lengths .entry)) (now (rings .entry)))) ⌝ }
 {
     let mut at: usize = 256;
     let mut from: usize = 0;
@@ -181,9 +157,9 @@ fn put_file(out: &mut [u8], lengths: &[u64], zones: &[u8], rings: &[u8])
     requires { ⌜ (sumTo (now lengths) 84 ≡ length (now rings)) × (sizeOf (now lengths) ≤ length (now out)) ⌝ }
     ensures { λ r. ⌜ now (out .exit) ≡ filled (now (lengths .entry)) (now (zones .entry)) (now (rings .entry)) (now (out .entry)) ⌝ }
 {
-    put_bytes(out, 0, b"MNIB-1541-RAW\x01\x00\x00");
+    base::store(out, 0, b"MNIB-1541-RAW\x01\x00\x00");
     let at = put_pairs(out, lengths, zones);
-    put_zeros(out, at, 256 - at);
+    base::fill(out, at, 256 - at, 0);
     put_windows(out, lengths, rings);
 }
 

@@ -7,9 +7,10 @@ use native.Mathlib.Nat.{le-of-lt, div-le-self, div-mul-le-self, mul-le-mul-left}
 use lib.ListN.{length, getD}
 use Rattle.base.proofs.Tests.{eqb-yes, eqb-no}
 use Rattle.page_text.specs.Numerals.{decimal}
-use Rattle.lines.specs.Line.{numberText}
-use Rattle.pages.specs.Page.{ascii, together, Page, writes}
-use Rattle.pages.proofs.PageLaws.{then}
+use Rattle.page.specs.Wording.{numberText}
+use Rattle.base.specs.Words.{ascii}
+use Rattle.page.specs.Page.{together, Page, writes}
+use Rattle.page.proofs.PageLaws.{then}
 use Rattle.page_side.specs.Arcs.{radiusOf, aroundOf, shareOf, arcOf, beginsAt, className, ringText, dashText, arcText, svgTrack}
 
 -- ---- on the ring

@@ -6,8 +6,8 @@ use lib.Dec.{eqb}
 use lib.ListN.{length, getD, length-append}
 use Rattle.base.proofs.Picks.{pick-ind}
 use Rattle.page_text.proofs.DecimalLaws.{decimal-width}
-use Rattle.pages.specs.Page.{allOf}
-use Rattle.pages.proofs.PageLaws.{append-long, together-long}
+use Rattle.page.specs.Page.{allOf}
+use Rattle.page.proofs.PageLaws.{append-long, together-long}
 use Rattle.page_side.specs.Arcs.{radiusOf, aroundOf, arcOf, beginsAt, className, ringText, dashText, arcText, svgTrack}
 use Rattle.page_side.proofs.ArcLaws.{arc-inside}
 

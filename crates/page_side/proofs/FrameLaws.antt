@@ -2,8 +2,8 @@
 use mathlib.Core.Path.{_≡_}
 use mathlib.Core.List.{List, [], _∷_}
 use Prim.Native.Nat.{ℕ}
-use Rattle.pages.specs.Page.{Page, writes}
-use Rattle.pages.proofs.PageLaws.{then}
+use Rattle.page.specs.Page.{Page, writes}
+use Rattle.page.proofs.PageLaws.{then}
 
 pub four-put : (p q r s t : Page) (a b c d : List ℕ) → q ≡ writes p (a ∷ []) → r ≡ writes q (b ∷ []) → s ≡ writes r (c ∷ [])
     → t ≡ writes s (d ∷ []) → t ≡ writes p (a ∷ b ∷ c ∷ d ∷ [])

@@ -2,7 +2,7 @@
 use Prim.Native.Nat.{_≤_}
 use native.Mathlib.Omega.{arith}
 use lib.ListN.{length}
-use Rattle.pages.specs.Page.{allOf}
+use Rattle.page.specs.Page.{allOf}
 use Rattle.page_side.specs.Frame.{svgHead, svgEnd}
 
 pub head-long : length (allOf svgHead) ≤ 512

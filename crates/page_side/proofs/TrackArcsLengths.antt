@@ -2,7 +2,7 @@
 use mathlib.Core.List.{List}
 use Prim.Native.Nat.{ℕ, _<_}
 use native.Mathlib.Omega.{arith}
-use Rattle.pages.proofs.PageLaws.{Within}
+use Rattle.page.proofs.PageLaws.{Within}
 use Rattle.image_statuses.specs.Statuses.{statusesOf}
 use Rattle.page_side.specs.Arcs.{svgTrack}
 use Rattle.page_side.proofs.ArcsLengths.{track-long as svg-long}

@@ -7,8 +7,9 @@ use lib.Dec.{eqb}
 use lib.ListN.{length, getD}
 use Rattle.base.specs.Choice.{pick}
 use Rattle.page_text.specs.Numerals.{decimal}
-use Rattle.lines.specs.Line.{numberText}
-use Rattle.pages.specs.Page.{ascii, Text, together}
+use Rattle.page.specs.Wording.{numberText}
+use Rattle.base.specs.Words.{ascii}
+use Rattle.page.specs.Page.{Text, together}
 
 -- the radius of a track's ring, and how long its line is: 710 / 113 is twice pi, but for less than a millionth
 abbrev pub radiusOf : ℕ → ℕ

@@ -1,7 +1,8 @@
 -- The frame of a picture of a disk's side, as SVG text: the colours before the arcs, and behind them the words that say what the
 -- colours mean. The arcs between the two are drawn from the top on, clockwise (crate arcs).
 use mathlib.Core.List.{[], _∷_}
-use Rattle.pages.specs.Page.{ascii, Text}
+use Rattle.base.specs.Words.{ascii}
+use Rattle.page.specs.Page.{Text}
 
 unfoldable pub svgHead : Text
 svgHead =

@@ -2,7 +2,7 @@
 // The arcs of a track's ring as SVG text, put on a lent page.
 // The arcs of a track of an image, for the picture, put on a lent page.
 ghost use mathlib.Core.Path.{_≡_};
-ghost use Rattle.pages.specs.Page.{sheet, writes};
+ghost use Rattle.page.specs.Page.{sheet, writes};
 ghost use Rattle.page_side.specs.Frame.{svgHead, svgEnd};
 ghost use mathlib.Core.List.{[], _∷_};
 ghost use Prim.Native.Nat.{_<_, _≤_};
@@ -15,22 +15,22 @@ ghost use Rattle.page_side.specs.TrackArcs.{arcsText};
 pub fn put_svg_head(page: &mut [u8], at: usize) -> usize
     ensures { λ r. ⌜ sheet (now (page .exit)) r ≡ writes (sheet (now (page .entry)) at) svgHead ⌝ }
 {
-    let a = pages::words(
+    let a = page::words(
         page,
         at,
         b"<svg xmlns=\"http://www.w3.org/2000/svg\" viewBox=\"-41000 -41000 82000 91000\">\n",
     );
-    let b = pages::words(
+    let b = page::words(
         page,
         a,
         b"<style>circle{fill:none;stroke-width:600}path{stroke-width:1500}.reads{stroke:#2a7}",
     );
-    let c = pages::words(
+    let c = page::words(
         page,
         b,
         b".missing{stroke:#d22}.absent{stroke:#ddd}text{font:2200px sans-serif}</style>\n",
     );
-    pages::words(
+    page::words(
         page,
         c,
         b"<rect x=\"-41000\" y=\"-41000\" width=\"82000\" height=\"91000\" fill=\"#fff\"/>\n<g transform=\"rotate(-90)\">\n",
@@ -41,22 +41,22 @@ pub fn put_svg_head(page: &mut [u8], at: usize) -> usize
 pub fn put_svg_end(page: &mut [u8], at: usize) -> usize
     ensures { λ r. ⌜ sheet (now (page .exit)) r ≡ writes (sheet (now (page .entry)) at) svgEnd ⌝ }
 {
-    let x = pages::words(
+    let x = page::words(
         page,
         at,
         b"</g>\n<path class=\"reads\" d=\"M-38000 43500h3000\"/><text x=\"-34000\" y=\"44300\">reads</text>\n",
     );
-    let y = pages::words(
+    let y = page::words(
         page,
         x,
         b"<path class=\"missing\" d=\"M-24000 43500h3000\"/><text x=\"-20000\" y=\"44300\">does not read</text>\n",
     );
-    let z = pages::words(
+    let z = page::words(
         page,
         y,
         b"<path class=\"absent\" d=\"M0 43500h3000\"/><text x=\"4000\" y=\"44300\">the image has no such track</text>\n",
     );
-    pages::words(
+    page::words(
         page,
         z,
         b"<text x=\"-38000\" y=\"48000\">Track 1 is outermost. Sectors by number, clockwise from the top.</text>\n</svg>\n",
@@ -67,12 +67,12 @@ fn put_class(page: &mut [u8], at: usize, status: u8) -> usize
     ensures { λ r. ⌜ sheet (now (page .exit)) r ≡ writes (sheet (now (page .entry)) at) (className status ∷ []) ⌝ }
 {
     if status == 1 {
-        return pages::words(page, at, b"reads");
+        return page::words(page, at, b"reads");
     }
     if status == 0 {
-        return pages::words(page, at, b"absent");
+        return page::words(page, at, b"absent");
     }
-    pages::words(page, at, b"missing")
+    page::words(page, at, b"missing")
 }
 
 fn radius_of(track: u8) -> u64
@@ -116,9 +116,9 @@ fn put_ring(page: &mut [u8], at: usize, track: u8, n: usize) -> usize
     let radius = radius_of(track);
     let around = around_of(track);
     let arc = arc_of(track, n);
-    let a = pages::valued(page, at, b"\" r=\"", radius);
-    let b = pages::valued(page, a, b"\" stroke-dasharray=\"", arc);
-    pages::number(page, b, around - arc)
+    let a = page::valued(page, at, b"\" r=\"", radius);
+    let b = page::valued(page, a, b"\" stroke-dasharray=\"", arc);
+    page::number(page, b, around - arc)
 }
 
 fn put_dash(page: &mut [u8], at: usize, track: u8, n: usize, j: usize) -> usize
@@ -127,10 +127,10 @@ fn put_dash(page: &mut [u8], at: usize, track: u8, n: usize, j: usize) -> usize
 {
     let around = around_of(track);
     let begins = begins_at(track, n, j);
-    let a = pages::valued(page, at, b"\" stroke-dashoffset=\"", around - begins);
-    let b = pages::counted(page, a, b"\"><title>track", track as u64);
-    let c = pages::counted(page, b, b" sector", j as u64);
-    pages::words(page, c, b"</title></circle>\n")
+    let a = page::valued(page, at, b"\" stroke-dashoffset=\"", around - begins);
+    let b = page::counted(page, a, b"\"><title>track", track as u64);
+    let c = page::counted(page, b, b" sector", j as u64);
+    page::words(page, c, b"</title></circle>\n")
 }
 
 // The arc of a sector.
@@ -138,7 +138,7 @@ fn put_arc(page: &mut [u8], at: usize, track: u8, statuses: &[u8], j: usize) -> 
     requires { ⌜ j < length (now statuses) ⌝ }
     ensures { λ r. ⌜ sheet (now (page .exit)) r ≡ writes (sheet (now (page .entry)) at) (arcText track (now (statuses .entry)) j) ⌝ }
 {
-    let a = pages::words(page, at, b"<circle class=\"");
+    let a = page::words(page, at, b"<circle class=\"");
     let b = put_class(page, a, statuses[j]);
     let c = put_ring(page, b, track, statuses.len());
     put_dash(page, c, track, statuses.len(), j)
@@ -174,5 +174,5 @@ pub fn put_arcs(page: &mut [u8], at: usize, image: &[u8], track: u8) -> usize
     let mut statuses = [0u8; 21];
     image_statuses::track_statuses(image, track, &mut statuses);
     let count = geometry::sectors_per_track(track) as usize;
-    put_arcs_if_shown(page, at, track, lines::so_far(&statuses, count))
+    put_arcs_if_shown(page, at, track, page::so_far(&statuses, count))
 }

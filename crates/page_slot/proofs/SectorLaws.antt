@@ -4,12 +4,13 @@ use mathlib.Core.List.{List, [], _∷_, _++_}
 use Prim.Native.Nat.{ℕ, _-_}
 use lib.ListN.{length, getD, take}
 use Rattle.base.proofs.Tests.{eqb-yes, eqb-no}
-use Rattle.lines.specs.Line.{numberText}
-use Rattle.pages.specs.Page.{ascii, together, Page, writes}
-use Rattle.pages.proofs.PageLaws.{nothing, then}
+use Rattle.page.specs.Wording.{numberText}
+use Rattle.base.specs.Words.{ascii}
+use Rattle.page.specs.Page.{together, Page, writes}
+use Rattle.page.proofs.PageLaws.{nothing, then}
 use Rattle.track_read.specs.Answers.{ringStatuses}
 use native.Mathlib.Nat.{sub-zero}
-use Rattle.page_track.specs.Tally.{tally}
+use Rattle.page.specs.Tally.{tallyText}
 use Rattle.page_slot.specs.Turn.{turnStatuses}
 use Rattle.page_slot.specs.Sectors.{lostAt, lostText, foundText, sectorsText}
 
@@ -39,11 +40,11 @@ pub all-lost : (p q : Page) (ring turn window : List ℕ) (j : ℕ) → j ≡ le
 unfolding lostText
 all-lost p q ring turn window j n e = rw (← n) e
 
-pub found-put : (p q r s : Page) (ring turn window : List ℕ) → q ≡ writes p (tally (ascii " ring") ring)
-    → r ≡ writes q (tally (ascii " window") window) → s ≡ writes r (lostText ring turn window) → s ≡ writes p (foundText ring turn window)
+pub found-put : (p q r s : Page) (ring turn window : List ℕ) → q ≡ writes p (tallyText (ascii " ring") ring)
+    → r ≡ writes q (tallyText (ascii " window") window) → s ≡ writes r (lostText ring turn window) → s ≡ writes p (foundText ring turn window)
 found-put p q r s ring turn window e f g =
-    then p q s (tally (ascii " ring") ring) (tally (ascii " window") window ++ lostText ring turn window) e
-    (then q r s (tally (ascii " window") window) (lostText ring turn window) f g)
+    then p q s (tallyText (ascii " ring") ring) (tallyText (ascii " window") window ++ lostText ring turn window) e
+    (then q r s (tallyText (ascii " window") window) (lostText ring turn window) f g)
 
 -- the same, where the statuses are known by another name
 pub sectors-put : (p q : Page) (rs ts ws window : List ℕ) (span track : ℕ) → rs ≡ ringStatuses (take (span - 0) window) track

@@ -1,18 +1,20 @@
--- How long the line of a slot is: it fits on the page that the program lends, so that by `printed` (pages) all of it is written.
+-- How long the line of a slot is: it fits on the page that the program lends, so that by `printed` (page) all of it is written.
 use mathlib.Core.Path.{_≡_, refl}
 use mathlib.Core.List.{List, [], _∷_, _++_}
-use Prim.Native.Nat.{ℕ, _+_, _≤_, _<_, _/_}
+use Prim.Native.Nat.{ℕ, _+_, _*_, _≤_, _<_, _/_}
 use native.Mathlib.Omega.{arith}
-use lib.ListN.{length, take, drop, length-append, length-take}
-use Rattle.pages.specs.Page.{ascii, Text, allOf}
-use Rattle.pages.proofs.PageLaws.{append-long, Within}
+use native.Mathlib.Nat.{mod-lt}
+use lib.Dec.{lit<}
+use lib.ListN.{length, getD, drop, length-append, length-take}
+use Rattle.base.specs.Words.{ascii}
+use Rattle.page.specs.Page.{Text, allOf}
+use Rattle.page.proofs.PageLaws.{append-long, Within}
 use Rattle.base.specs.Choice.{pick}
 use Rattle.nib_catalogue.specs.declared.Entry.{Entry}
-use Rattle.nib_catalogue.specs.declared.Entry.the-variants.{At, Absent, Refused as NoEntry}
-use Rattle.nib_slots.specs.declared.NibSlot.{NibSlot}
-use Rattle.nib_slots.specs.declared.NibSlot.the-variants.{Ring, Empty, Refused}
-use Rattle.nib_catalogue.specs.Catalogue.{zoneAt}
-use Rattle.nib_slots.specs.Slots.{entryOf, slotBy, slotOf}
+use Rattle.nib_catalogue.specs.declared.Entry.the-variants.{At, Absent, Refused}
+use Rattle.nib_catalogue.specs.Catalogue.{zoneAt, windowStart, windowAt}
+use Rattle.nib_orbit.specs.Orbit.{chosenEstimate, chosen}
+use Rattle.nib_slots.specs.Slots.{entryOf}
 use Rattle.base.proofs.Picks.{pick-ind}
 use Rattle.page_text.proofs.DecimalLaws.{decimal-width}
 use Rattle.page_slot.specs.Span.{spanText}
@@ -20,7 +22,7 @@ use Rattle.page_slot.specs.Sectors.{sectorsText}
 use Rattle.page_slot.specs.Slots.{isWhole, trackOf, nameText, slotLine, slotTextBy, slotText}
 use Rattle.page_slot.proofs.SlotSpanLengths.{span-long}
 use Rattle.page_slot.proofs.SlotSectorsLengths.{sectors-long}
-use Rattle.page_slot.proofs.SlotLaws.{placed}
+use Rattle.page_slot.proofs.SlotLaws.{low-entry}
 
 name-long : (slot : ℕ) → slot ≤ 83 → Within 12 (nameText slot)
 unfolding nameText allOf
@@ -32,41 +34,31 @@ name-long slot h =
       pick-ind (Within 2) (isWhole slot) [] (ascii ".5" ∷ []) (λ e. omega arith) (λ e. omega arith),
     ))
 
-line-long : (window : List ℕ) (slot span zone : ℕ) → length window ≤ 8192 → span ≤ 8192 → zone < 4 → slot ≤ 83
-    → Within 2048 (slotLine window slot span zone)
+line-long : (window : List ℕ) (slot zone : ℕ) → length window ≤ 8192 → zone < 4 → slot ≤ 83 → Within 2048 (slotLine window slot zone)
 unfolding slotLine allOf
-line-long window slot span zone w s z l =
-    let sectors : Text = pick (isWhole slot) (sectorsText window span (trackOf slot)) [] in
+line-long window slot zone w z l =
+    let sectors : Text = pick (isWhole slot) (sectorsText window (chosen window zone) (trackOf slot)) [] in
+    let span : Text = spanText zone (chosenEstimate window zone) in
     omega (
       arith,
-      append-long (nameText slot) (spanText window span zone ++ (sectors ++ (ascii "\n" ∷ []))),
-      append-long (spanText window span zone) (sectors ++ (ascii "\n" ∷ [])),
+      append-long (nameText slot) (span ++ (sectors ++ (ascii "\n" ∷ []))),
+      append-long span (sectors ++ (ascii "\n" ∷ [])),
       append-long sectors (ascii "\n" ∷ []),
       name-long slot l,
-      span-long window span zone w s z,
-      pick-ind (Within 900) (isWhole slot) (sectorsText window span (trackOf slot)) [] (λ e. sectors-long window span (trackOf slot))
-          (λ e. omega arith),
+      span-long window zone w z,
+      pick-ind (Within 900) (isWhole slot) (sectorsText window (chosen window zone) (trackOf slot)) []
+          (λ e. sectors-long window (chosen window zone) (trackOf slot)) (λ e. omega arith),
     )
 
 -- ---- of a file
-zone-by : (file : List ℕ) (slot start span zone : ℕ) (n : Entry) → slotBy file n ≡ Ring start span zone → zone < 4
-zone-by file slot start span zone (NoEntry r) q = let z : _≡_ {A = ℕ} 0 1 = cc in let w : ⊥ = omega arith in absurd w
-zone-by file slot start span zone Absent q = let z : _≡_ {A = ℕ} 0 1 = cc in let w : ⊥ = omega arith in absurd w
-zone-by file slot start span zone (At k) q = let z : zone ≡ zoneAt file k = cc in omega arith
-
-low-zone : (file : List ℕ) (slot start span zone : ℕ) → slotOf file slot ≡ Ring start span zone → zone < 4
-unfolding slotOf
-low-zone file slot start span zone q = zone-by file slot start span zone (entryOf file slot) q
-
-by-long : (file : List ℕ) (slot : ℕ) (found : NibSlot) → slotOf file slot ≡ found → Within 2048 (slotTextBy file slot found)
+by-long : (file : List ℕ) (slot : ℕ) (found : Entry) → entryOf file slot ≡ found → Within 2048 (slotTextBy file slot found)
 unfolding allOf
-by-long file slot Empty e = omega arith
+by-long file slot Absent e = omega arith
 by-long file slot (Refused number) e = omega arith
-by-long file slot (Ring start span zone) e =
-    let p = placed file slot start span zone e in
-    line-long (take 8192 (drop start file)) slot span zone (omega (arith, length-take 8192 (drop start file))) (p .within)
-    (low-zone file slot start span zone e) (p .low)
+by-long file slot (At k) e =
+    line-long (windowAt file k) slot (zoneAt file k) (omega (arith, length-take 8192 (drop (windowStart k) file)))
+    (mod-lt (getD file (17 + 2 * k) 0) (lit< tt)) (low-entry file slot k e)
 
 pub slot-fits : (file : List ℕ) (slot : ℕ) → Within 2048 (slotText file slot)
 unfolding slotText
-slot-fits file slot = by-long file slot (slotOf file slot) refl
+slot-fits file slot = by-long file slot (entryOf file slot) refl

@@ -5,15 +5,16 @@ use native.Mathlib.Omega.{arith}
 use mathlib.Core.Bool.{_&&_, not}
 use lib.ListN.{length, take, length-append}
 use Rattle.geometry.proofs.ZoneLaws.{sectors-of}
-use Rattle.lines.specs.Line.{numberText}
-use Rattle.pages.specs.Page.{ascii, together, allOf}
-use Rattle.pages.proofs.PageLaws.{append-long, together-long, Within}
+use Rattle.page.specs.Wording.{numberText}
+use Rattle.base.specs.Words.{ascii}
+use Rattle.page.specs.Page.{together, allOf}
+use Rattle.page.proofs.PageLaws.{append-long, together-long, Within}
 use Rattle.track_read.specs.Answers.{ringStatuses}
 use Rattle.track_read.proofs.StatusLaws.{ring-count}
 use Rattle.base.proofs.Picks.{pick-ind}
 use Rattle.page_text.proofs.DecimalLaws.{decimal-width}
-use Rattle.page_track.specs.Tally.{tally}
-use Rattle.page_track.proofs.TallyLengths.{tally-long}
+use Rattle.page.specs.Tally.{tallyText}
+use Rattle.page.proofs.TallyLengths.{tally-long}
 use Rattle.page_slot.specs.Turn.{turnStatuses}
 use Rattle.page_slot.specs.Sectors.{has, whereabouts, lostAt, lostText, foundText, sectorsText}
 
@@ -34,8 +35,8 @@ found-long ring turn window r w =
     let l = together-long 32 (lostAt ring turn window) (length ring) (λ j h. lost-at-long ring turn window j (omega arith)) in
     omega (
       arith,
-      append-long (tally (ascii " ring") ring) (tally (ascii " window") window ++ together (length ring) (lostAt ring turn window)),
-      append-long (tally (ascii " window") window) (together (length ring) (lostAt ring turn window)),
+      append-long (tallyText (ascii " ring") ring) (tallyText (ascii " window") window ++ together (length ring) (lostAt ring turn window)),
+      append-long (tallyText (ascii " window") window) (together (length ring) (lostAt ring turn window)),
       tally-long (ascii " ring") ring r,
       tally-long (ascii " window") window w,
       l,

@@ -1,13 +1,17 @@
 -- How long the text of a span is.
+use mathlib.Core.Path.{sym, subst}
 use mathlib.Core.List.{List}
 use Prim.Native.Nat.{ℕ, suc, _+_, _-_, _≤_, _<_, zero}
 use native.Mathlib.Omega.{arith}
 use lib.ListN.{length, getD, length-append}
 use Rattle.base.proofs.Tests.{pick-lt}
-use Rattle.pages.specs.Page.{allOf}
-use Rattle.pages.proofs.PageLaws.{Within}
+use Rattle.page.specs.Page.{allOf}
+use Rattle.page.proofs.PageLaws.{Within}
 use lib.Dec.{eqb}
-use Rattle.nib_orbit.specs.Orbit.{agreements, agreeing}
+use Rattle.nib_orbit.specs.Orbit.{agreements, agreeing, estimate, chosenEstimate, chosen}
+use Rattle.nib_orbit.specs.declared.Estimate.{Estimate}
+use Rattle.nib_orbit.proofs.Spans.{limits}
+use Rattle.nib_orbit.proofs.Best.{chosen-within, chosen-is}
 use Rattle.page_text.proofs.DecimalLaws.{decimal-width}
 use Rattle.page_slot.specs.Span.{spanText}
 
@@ -25,9 +29,10 @@ agreements-le : (window : List ℕ) (span : ℕ) → agreements window span ≤ 
 unfolding agreements
 agreements-le window span = omega (arith, agreeing-le window span (length window - span))
 
-pub span-long : (window : List ℕ) (span zone : ℕ) → length window ≤ 8192 → span ≤ 8192 → zone < 4 → Within 80 (spanText window span zone)
+estimate-long : (window : List ℕ) (span zone : ℕ) → length window ≤ 8192 → span ≤ 8192 → zone < 4
+    → Within 80 (spanText zone (estimate window span))
 unfolding spanText allOf
-span-long window span zone w s z =
+estimate-long window span zone w s z =
     simp length-append
     (omega (
       arith,
@@ -36,3 +41,9 @@ span-long window span zone w s z =
       decimal-width 3 (agreements window span) (omega (arith, agreements-le window span)),
       decimal-width 3 (length window - span) (omega arith),
     ))
+
+pub span-long : (window : List ℕ) (zone : ℕ) → length window ≤ 8192 → zone < 4 → Within 80 (spanText zone (chosenEstimate window zone))
+span-long window zone w z =
+    let l = limits zone in
+    subst (λ (e : Estimate). Within 80 (spanText zone e)) (sym (chosen-is window zone))
+    (estimate-long window (chosen window zone) zone w (omega (arith, chosen-within window zone .1)) z)

@@ -1,22 +1,16 @@
 -- The span as it is put, text by text: p is the page before, and each equation is what one call adds.
 use mathlib.Core.Path.{_≡_}
-use mathlib.Core.List.{List, [], _∷_}
-use Prim.Native.Nat.{ℕ, _-_}
-use lib.ListN.{length}
-use Rattle.lines.specs.Line.{numberText}
-use Rattle.pages.specs.Page.{ascii, Page, writes}
-use Rattle.pages.proofs.PageLaws.{then}
-use Rattle.nib_orbit.specs.Orbit.{agreements}
+use mathlib.Core.List.{[], _∷_}
+use Prim.Native.Nat.{ℕ}
+use Rattle.base.specs.Words.{ascii}
+use Rattle.page.specs.Wording.{numberText}
+use Rattle.page.specs.Page.{Page, writes}
+use Rattle.page.proofs.PageLaws.{then}
+use Rattle.nib_orbit.specs.declared.Estimate.{Estimate}
 use Rattle.page_slot.specs.Span.{spanText}
 
--- ---- its span
-pub span-put : (p q r s t : Page) (window : List ℕ) (span zone count : ℕ) → count ≡ agreements window span
-    → q ≡ writes p (ascii " zone" ∷ numberText zone ∷ []) → r ≡ writes q (ascii " span" ∷ numberText span ∷ [])
-    → s ≡ writes r (ascii " agreements" ∷ numberText count ∷ []) → t ≡ writes s (ascii " of" ∷ numberText (length window - span) ∷ [])
-    → t ≡ writes p (spanText window span zone)
+pub span-put : (p q r s t : Page) (zone : ℕ) (chosen : Estimate) → q ≡ writes p (ascii " zone" ∷ numberText zone ∷ [])
+    → r ≡ writes q (ascii " span" ∷ numberText (chosen .span) ∷ []) → s ≡ writes r (ascii " agreements" ∷ numberText (chosen .agreements) ∷ [])
+    → t ≡ writes s (ascii " of" ∷ numberText (chosen .observations) ∷ []) → t ≡ writes p (spanText zone chosen)
 unfolding spanText
-span-put p q r s t window span zone count c e f g h =
-    rw (← c)
-    (then p q t (ascii " zone" ∷ numberText zone ∷ []) _ e
-    (then q r t (ascii " span" ∷ numberText span ∷ []) _ f
-    (then r s t (ascii " agreements" ∷ numberText count ∷ []) (ascii " of" ∷ numberText (length window - span) ∷ []) g h)))
+span-put p q r s t zone chosen e f g h = then p q t _ _ e (then q r t _ _ f (then r s t _ _ g h))

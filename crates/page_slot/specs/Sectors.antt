@@ -5,10 +5,11 @@ use mathlib.Core.List.{List, [], _∷_, _++_}
 use lib.Dec.{eqb}
 use lib.ListN.{length, getD, take}
 use Rattle.base.specs.Choice.{pick}
-use Rattle.lines.specs.Line.{numberText}
-use Rattle.pages.specs.Page.{ascii, Text, together}
+use Rattle.page.specs.Wording.{numberText}
+use Rattle.base.specs.Words.{ascii}
+use Rattle.page.specs.Page.{Text, together}
 use Rattle.track_read.specs.Answers.{ringStatuses}
-use Rattle.page_track.specs.Tally.{tally}
+use Rattle.page.specs.Tally.{tallyText}
 use Rattle.page_slot.specs.Turn.{turnStatuses}
 
 -- status 1: the sector is found
@@ -29,7 +30,7 @@ lostText ring turn window = together (length ring) (lostAt ring turn window)
 
 -- the sectors of a track, by their statuses in the ring, in its turn, and in the window
 abbrev pub foundText : List ℕ → List ℕ → List ℕ → Text
-foundText ring turn window = tally (ascii " ring") ring ++ (tally (ascii " window") window ++ lostText ring turn window)
+foundText ring turn window = tallyText (ascii " ring") ring ++ (tallyText (ascii " window") window ++ lostText ring turn window)
 
 -- the ring is the first `span` bytes of the window
 unfoldable pub sectorsText : List ℕ → ℕ → ℕ → Text

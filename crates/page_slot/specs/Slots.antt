@@ -3,14 +3,17 @@
 use Prim.Native.Nat.{ℕ, _+_, _/_, _%_}
 use mathlib.Core.List.{List, [], _∷_, _++_}
 use lib.Dec.{eqb}
-use lib.ListN.{take, drop}
 use Rattle.base.specs.Choice.{pick}
-use Rattle.lines.specs.Line.{numberText}
-use Rattle.pages.specs.Page.{ascii, Text}
+use Rattle.page.specs.Wording.{numberText}
+use Rattle.base.specs.Words.{ascii}
+use Rattle.page.specs.Page.{Text}
 use mathlib.Core.Bool.{Bool}
-use Rattle.nib_slots.specs.declared.NibSlot.{NibSlot}
-use Rattle.nib_slots.specs.declared.NibSlot.the-variants.{Ring, Empty, Refused}
-use Rattle.nib_slots.specs.Slots.{slotOf}
+use Rattle.nib_orbit.specs.Orbit.{chosenEstimate}
+use Rattle.nib_orbit.specs.declared.Estimate.{Estimate}
+use Rattle.nib_catalogue.specs.declared.Entry.{Entry}
+use Rattle.nib_catalogue.specs.declared.Entry.the-variants.{At, Absent, Refused}
+use Rattle.nib_catalogue.specs.Catalogue.{zoneAt, windowAt}
+use Rattle.nib_slots.specs.Slots.{entryOf}
 use Rattle.page_slot.specs.Span.{spanText}
 use Rattle.page_slot.specs.Sectors.{sectorsText}
 
@@ -24,17 +27,20 @@ trackOf slot = slot / 2 + 1
 unfoldable pub nameText : ℕ → Text
 nameText slot = ascii "track" ∷ numberText (trackOf slot) ∷ pick (isWhole slot) [] (ascii ".5" ∷ [])
 
--- the line
-unfoldable pub slotLine : List ℕ → ℕ → ℕ → ℕ → Text
-slotLine window slot span zone =
+-- the line, by a slot's window and zone, and by the estimate that is taken
+abbrev pub lineBy : List ℕ → ℕ → ℕ → Estimate → Text
+lineBy window slot zone taken =
     nameText slot
-    ++ (spanText window span zone ++ (pick (isWhole slot) (sectorsText window span (trackOf slot)) [] ++ (ascii "\n" ∷ [])))
+    ++ (spanText zone taken ++ (pick (isWhole slot) (sectorsText window (taken .span) (trackOf slot)) [] ++ (ascii "\n" ∷ [])))
+
+unfoldable pub slotLine : List ℕ → ℕ → ℕ → Text
+slotLine window slot zone = lineBy window slot zone (chosenEstimate window zone)
 
 -- of a file; a slot that is absent, or refused, has none
-abbrev pub slotTextBy : List ℕ → ℕ → NibSlot → Text
-slotTextBy file slot (Ring start span zone) = slotLine (take 8192 (drop start file)) slot span zone
-slotTextBy file slot Empty = []
+abbrev pub slotTextBy : List ℕ → ℕ → Entry → Text
+slotTextBy file slot (At k) = slotLine (windowAt file k) slot (zoneAt file k)
+slotTextBy file slot Absent = []
 slotTextBy file slot (Refused number) = []
 
 unfoldable pub slotText : List ℕ → ℕ → Text
-slotText file slot = slotTextBy file slot (slotOf file slot)
+slotText file slot = slotTextBy file slot (entryOf file slot)

@@ -1,12 +1,13 @@
 -- The span that is taken for one turn of the disk, and what speaks for it.
 use Prim.Native.Nat.{ℕ}
-use mathlib.Core.List.{List, [], _∷_}
-use Rattle.lines.specs.Line.{numberText}
-use Rattle.pages.specs.Page.{ascii, Text}
-use Rattle.nib_orbit.specs.Orbit.{agreements, observations}
+use mathlib.Core.List.{[], _∷_}
+use Rattle.base.specs.Words.{ascii}
+use Rattle.page.specs.Wording.{numberText}
+use Rattle.page.specs.Page.{Text}
+use Rattle.nib_orbit.specs.declared.Estimate.{Estimate}
 
--- zone and span, and how many of the pairs of bytes that lie a span apart agree
-unfoldable pub spanText : List ℕ → ℕ → ℕ → Text
-spanText window span zone =
-    ascii " zone" ∷ numberText zone ∷ ascii " span" ∷ numberText span ∷ ascii " agreements"
-    ∷ numberText (agreements window span) ∷ ascii " of" ∷ numberText (observations window span) ∷ []
+-- the zone; of an estimate its span, and how many of the pairs of bytes that lie a span apart agree
+unfoldable pub spanText : ℕ → Estimate → Text
+spanText zone chosen =
+    ascii " zone" ∷ numberText zone ∷ ascii " span" ∷ numberText (chosen .span) ∷ ascii " agreements" ∷ numberText (chosen .agreements)
+    ∷ ascii " of" ∷ numberText (chosen .observations) ∷ []

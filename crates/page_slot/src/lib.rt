@@ -1,11 +1,9 @@
-// The span of a slot's window, and how much speaks for it, put on a lent page.
-// The sectors that begin in the first bytes of a window, read on past those bytes.
-// The sectors that are found in a slot's ring and in its window, put on a lent page.
-// The line of a slot of a NIB file, put on a lent page from a place on; the place behind it is answered.
+// The line of a slot of a NIB file, put on a lent page from a place on: the span that is taken for one turn and what speaks for it, the
+// sectors that are found in the ring so cut and in the whole window, and where those are that the ring has not.
 ghost use mathlib.Core.Path.{_≡_};
 ghost use Prim.Native.Nat.{_<_, _≤_};
 ghost use lib.ListN.{length};
-ghost use Rattle.pages.specs.Page.{sheet, writes};
+ghost use Rattle.page.specs.Page.{sheet, writes};
 ghost use Rattle.page_slot.specs.Span.{spanText};
 ghost use Rattle.geometry.specs.Zones.{sectorsOf};
 ghost use Rattle.ring.specs.Bit.{IsRing};
@@ -14,22 +12,23 @@ ghost use Rattle.page_slot.specs.Sectors.{lostAt, lostText, foundText, s
 ghost use mathlib.Core.List.{[]};
 ghost use Rattle.base.specs.Choice.{pick};
 ghost use Rattle.page_slot.specs.Slots.{isWhole, trackOf, nameText, slotLine, slotText};
-use nib_slots::NibSlot;
+ghost use Rattle.nib_catalogue.specs.declared.Pairs.the-variants.{Count};
+ghost use Rattle.nib_catalogue.specs.Catalogue.{catalogueOf};
+use nib_catalogue::Entry;
+use nib_orbit::Estimate;
 
 // Zone, span and agreements.
-pub fn put_span(page: &mut [u8], at: usize, window: &[u8], span: usize, zone: u8) -> usize
-    requires { ⌜ span ≤ length (now window) ⌝ }
-    ensures { λ r. ⌜ sheet (now (page .exit)) r ≡ writes (sheet (now (page .entry)) at) (spanText (now (window .entry)) span zone) ⌝ }
+fn put_span(page: &mut [u8], at: usize, zone: u8, chosen: Estimate) -> usize
+    ensures { λ r. ⌜ sheet (now (page .exit)) r ≡ writes (sheet (now (page .entry)) at) (spanText zone chosen) ⌝ }
 {
-    let count = nib_orbit::agreements(window, span);
-    let a = pages::counted(page, at, b" zone", zone as u64);
-    let b = pages::counted(page, a, b" span", span as u64);
-    let c = pages::counted(page, b, b" agreements", count as u64);
-    pages::counted(page, c, b" of", (window.len() - span) as u64)
+    let a = page::counted(page, at, b" zone", zone as u64);
+    let b = page::counted(page, a, b" span", chosen.span as u64);
+    let c = page::counted(page, b, b" agreements", chosen.agreements as u64);
+    page::counted(page, c, b" of", chosen.observations as u64)
 }
 
 // The statuses of a track's sectors in the turn that the first `span` bytes of a window begin.
-pub fn turn_statuses(window: &[u8], span: usize, track: u8, part: &mut [u8])
+fn turn_statuses(window: &[u8], span: usize, track: u8, part: &mut [u8])
     requires { ⌜ (IsRing (now window)) × (span ≤ length (now window)) × (length (now part) ≡ sectorsOf track) ⌝ }
     ensures { λ r. ⌜ now (part .exit) ≡ turnStatuses (now (window .entry)) span track ⌝ }
 {
@@ -67,11 +66,11 @@ fn put_lost_at(
     if window[j] != 1 {
         return at;
     }
-    let behind = pages::counted(page, at, b"; sector", j as u64);
+    let behind = page::counted(page, at, b"; sector", j as u64);
     if turn[j] == 1 {
-        return pages::words(page, behind, b" lost across the join");
+        return page::words(page, behind, b" lost across the join");
     }
-    pages::words(page, behind, b" only behind the span")
+    page::words(page, behind, b" only behind the span")
 }
 
 fn put_lost(page: &mut [u8], at: usize, ring: &[u8], turn: &[u8], window: &[u8]) -> usize
@@ -94,8 +93,8 @@ fn put_found(page: &mut [u8], at: usize, ring: &[u8], turn: &[u8], window: &[u8]
     ensures { λ r. ⌜ sheet (now (page .exit)) r ≡ writes (sheet (now (page .entry)) at)
         (foundText (now (ring .entry)) (now (turn .entry)) (now (window .entry))) ⌝ }
 {
-    let a = page_track::put_tally(page, at, b" ring", ring);
-    let b = page_track::put_tally(page, a, b" window", window);
+    let a = page::tally(page, at, b" ring", ring);
+    let b = page::tally(page, a, b" window", window);
     put_lost(page, b, ring, turn, window)
 }
 
@@ -122,7 +121,7 @@ fn put_read(
 }
 
 // What was found on a whole track.
-pub fn put_sectors(page: &mut [u8], at: usize, window: &[u8], span: usize, track: u8) -> usize
+fn put_sectors(page: &mut [u8], at: usize, window: &[u8], span: usize, track: u8) -> usize
     requires { ⌜ (IsRing (now window)) × (span ≤ length (now window)) ⌝ }
     ensures { λ r. ⌜ sheet (now (page .exit)) r ≡ writes (sheet (now (page .entry)) at) (sectorsText (now (window .entry)) span track) ⌝ }
 {
@@ -145,11 +144,11 @@ pub fn put_sectors(page: &mut [u8], at: usize, window: &[u8], span: usize, track
 fn put_name(page: &mut [u8], at: usize, slot: usize) -> usize
     ensures { λ r. ⌜ sheet (now (page .exit)) r ≡ writes (sheet (now (page .entry)) at) (nameText slot) ⌝ }
 {
-    let a = pages::counted(page, at, b"track", (slot / 2 + 1) as u64);
+    let a = page::counted(page, at, b"track", (slot / 2 + 1) as u64);
     if slot % 2 == 0 {
         return a;
     }
-    pages::words(page, a, b".5")
+    page::words(page, a, b".5")
 }
 
 // A half-track between two tracks has no sectors.
@@ -164,34 +163,30 @@ fn put_if_whole(page: &mut [u8], at: usize, window: &[u8], slot: usize, span: us
     at
 }
 
-fn put_window(
-    page: &mut [u8],
-    at: usize,
-    window: &[u8],
-    slot: usize,
-    span: usize,
-    zone: u8,
-) -> usize
-    requires { ⌜ (IsRing (now window)) × (span ≤ length (now window)) × (slot ≤ 83) ⌝ }
-    ensures { λ r. ⌜ sheet (now (page .exit)) r ≡ writes (sheet (now (page .entry)) at) (slotLine (now (window .entry)) slot span zone) ⌝ }
+// The line of a slot, by its window and zone.
+fn put_window(page: &mut [u8], at: usize, window: &[u8], slot: usize, zone: u8) -> usize
+    requires { ⌜ (length (now window) ≡ 8192) × (slot ≤ 83) ⌝ }
+    ensures { λ r. ⌜ sheet (now (page .exit)) r ≡ writes (sheet (now (page .entry)) at) (slotLine (now (window .entry)) slot zone) ⌝ }
 {
+    let chosen = nib_orbit::estimate_orbit(window, zone);
     let a = put_name(page, at, slot);
-    let b = put_span(page, a, window, span, zone);
-    let c = put_if_whole(page, b, window, slot, span);
-    pages::words(page, c, b"\n")
+    let b = put_span(page, a, zone, chosen);
+    let c = put_if_whole(page, b, window, slot, chosen.span);
+    page::words(page, c, b"\n")
 }
 
-// The line of a slot of a NIB file; nothing where the file has no such slot.
-pub fn put_slot(page: &mut [u8], at: usize, file: &[u8], slot: usize) -> usize
+// The line of a slot of a NIB file with so many pairs; nothing where the file has no such slot.
+pub fn put_slot(page: &mut [u8], at: usize, file: &[u8], pairs: usize, slot: usize) -> usize
+    requires { ⌜ (catalogueOf (now file) ≡ Count pairs) × (slot ≤ 83) ⌝ }
     ensures { λ r. ⌜ sheet (now (page .exit)) r ≡ writes (sheet (now (page .entry)) at) (slotText (now (file .entry)) slot) ⌝ }
 {
-    let found = nib_slots::nib_slot(file, slot);
-    match found {
-        NibSlot::Ring(start, span, zone) => {
-            let end = start + 8192;
-            put_window(page, at, &file[start..end], slot, span, zone)
+    let entry = nib_catalogue::find_code(file, (slot + 2) as u8, pairs);
+    match entry {
+        Entry::At(k) => {
+            let zone = nib_catalogue::zone_at(file, k);
+            put_window(page, at, nib_catalogue::window_at(file, k), slot, zone)
         }
-        NibSlot::Empty => at,
-        NibSlot::Refused(_) => at,
+        Entry::Absent => at,
+        Entry::Refused(_) => at,
     }
 }

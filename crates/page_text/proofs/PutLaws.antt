@@ -1,5 +1,4 @@
 -- Text put piece by piece.
---     bytes-more               one byte more
 --     short-put, long-put      a number of one digit; the last digit behind the others
 --     pair-put                 two digits, by two stores
 --     join-put                 hex digits behind hex digits
@@ -10,8 +9,8 @@ use Prim.Native.Nat.{ℕ, _+_, _/_, _%_, _^_, _≤_, _<_}
 use native.Mathlib.Numerals.{add-one}
 use native.Mathlib.Nat.{add-assoc}
 use native.Mathlib.Omega.{arith}
-use lib.ListN.{length, getD, set, take, drop, length-append}
-use lib.Seq.{sets, sets-eq, take-suc, length-take-le}
+use lib.ListN.{length, set, take, drop, length-append}
+use lib.Seq.{sets-eq}
 use Rattle.base.proofs.InRow.{sets-more}
 use Rattle.base.proofs.Tests.{ltb-yes, ltb-no}
 use Rattle.page_text.specs.Numerals.{digit, hexDigit, decimal, hexOf}
@@ -26,16 +25,6 @@ hex-low d h = rw (ltb-yes d 10 h)
 pub hex-high : (d : ℕ) → 10 ≤ d → 55 + d ≡ hexDigit d
 unfolding hexDigit
 hex-high d h = rw (ltb-no d 10 h)
-
-pub bytes-more : (out₀ out bytes : List ℕ) (at i : ℕ) → i < length bytes → out ≡ sets out₀ at (take i bytes)
-    → set out (at + i) (getD bytes i 0) ≡ sets out₀ at (take (i + 1) bytes)
-bytes-more out₀ out bytes at i h e =
-    rw (
-      e,
-      add-one,
-      take-suc bytes i 0 h,
-      ← sets-more (take i bytes) (getD bytes i 0 ∷ []) out₀ at i (length-take-le i bytes (omega arith)),
-    )
 
 pub put-more : (a b c s t : List ℕ) (at m n : ℕ) → Put a at s b m → Put b m t c n → Put a at (s ++ t) c n
 put-more a b c s t at m n p q =

@@ -1,4 +1,2 @@
-pub mod TallyLaws
-pub mod TallyLengths
 pub mod TrackLaws
 pub mod TrackLinesLengths

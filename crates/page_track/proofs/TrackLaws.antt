@@ -4,22 +4,23 @@ use mathlib.Core.Bool.{true, false}
 use mathlib.Core.List.{List, [], _∷_, _++_}
 use Prim.Native.Nat.{ℕ}
 use Rattle.base.specs.Bytes.{anyNonzero}
-use Rattle.lines.specs.Line.{numberText}
-use Rattle.pages.specs.Page.{ascii, Text, Page, writes}
-use Rattle.pages.proofs.PageLaws.{nothing, then}
+use Rattle.page.specs.Wording.{numberText}
+use Rattle.base.specs.Words.{ascii}
+use Rattle.page.specs.Page.{Text, Page, writes}
+use Rattle.page.proofs.PageLaws.{nothing, then}
 use Rattle.image_statuses.specs.Statuses.{isShown}
-use Rattle.page_track.specs.Tally.{tally}
+use Rattle.page.specs.Tally.{tallyText}
 use Rattle.page_track.specs.Tracks.{trackLine, ifShown}
 
 -- ---- the line of a track
 module _ (p q r : Page) (track : ℕ) (statuses : List ℕ) (e : q ≡ writes p (ascii "track" ∷ numberText track ∷ [])) where
-  pub line-there : (s : Page) → anyNonzero statuses ≡ true → r ≡ writes q (tally (ascii " reads") statuses)
+  pub line-there : (s : Page) → anyNonzero statuses ≡ true → r ≡ writes q (tallyText (ascii " reads") statuses)
       → s ≡ writes r (ascii "\n" ∷ []) → s ≡ writes p (trackLine track statuses)
   unfolding trackLine
   line-there s a f g =
       rw a
-      (then p q s (ascii "track" ∷ numberText track ∷ []) (tally (ascii " reads") statuses ++ (ascii "\n" ∷ [])) e
-      (then q r s (tally (ascii " reads") statuses) (ascii "\n" ∷ []) f g))
+      (then p q s (ascii "track" ∷ numberText track ∷ []) (tallyText (ascii " reads") statuses ++ (ascii "\n" ∷ [])) e
+      (then q r s (tallyText (ascii " reads") statuses) (ascii "\n" ∷ []) f g))
 
   pub line-absent : anyNonzero statuses ≡ false → r ≡ writes q (ascii " absent\n" ∷ []) → r ≡ writes p (trackLine track statuses)
   unfolding trackLine

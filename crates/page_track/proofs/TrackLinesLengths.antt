@@ -5,15 +5,16 @@ use native.Mathlib.Omega.{arith}
 use lib.ListN.{length, length-append}
 use Rattle.base.specs.Bytes.{anyNonzero}
 use Rattle.geometry.proofs.ZoneLaws.{sectors-of}
-use Rattle.pages.specs.Page.{ascii, Text, allOf}
-use Rattle.pages.proofs.PageLaws.{append-long, Within}
+use Rattle.base.specs.Words.{ascii}
+use Rattle.page.specs.Page.{Text, allOf}
+use Rattle.page.proofs.PageLaws.{append-long, Within}
 use Rattle.image_statuses.specs.Statuses.{statusesOf, isShown}
 use Rattle.image_statuses.proofs.StatusLaws.{status-count}
 use Rattle.base.proofs.Picks.{pick-ind}
 use Rattle.page_text.proofs.DecimalLaws.{decimal-width}
-use Rattle.page_track.specs.Tally.{tally}
+use Rattle.page.specs.Tally.{tallyText}
 use Rattle.page_track.specs.Tracks.{trackLine, ifShown, trackText}
-use Rattle.page_track.proofs.TallyLengths.{tally-long}
+use Rattle.page.proofs.TallyLengths.{tally-long}
 
 line-long : (track : ℕ) (statuses : List ℕ) → track < 256 → length statuses ≤ 21 → Within 200 (trackLine track statuses)
 unfolding trackLine allOf
@@ -22,8 +23,8 @@ line-long track statuses t few =
     (omega (
       arith,
       decimal-width 2 track (omega arith),
-      pick-ind (Within 100) (anyNonzero statuses) (tally (ascii " reads") statuses ++ (ascii "\n" ∷ [])) (ascii " absent\n" ∷ [])
-          (λ e. omega (arith, append-long (tally (ascii " reads") statuses) (ascii "\n" ∷ []), tally-long (ascii " reads") statuses few))
+      pick-ind (Within 100) (anyNonzero statuses) (tallyText (ascii " reads") statuses ++ (ascii "\n" ∷ [])) (ascii " absent\n" ∷ [])
+          (λ e. omega (arith, append-long (tallyText (ascii " reads") statuses) (ascii "\n" ∷ []), tally-long (ascii " reads") statuses few))
           (λ e. omega arith),
     ))
 

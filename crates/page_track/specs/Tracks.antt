@@ -3,16 +3,17 @@ use Prim.Native.Nat.{ℕ}
 use mathlib.Core.List.{List, [], _∷_, _++_}
 use Rattle.base.specs.Choice.{pick}
 use Rattle.base.specs.Bytes.{anyNonzero}
-use Rattle.lines.specs.Line.{numberText}
-use Rattle.pages.specs.Page.{ascii, Text}
+use Rattle.page.specs.Wording.{numberText}
+use Rattle.base.specs.Words.{ascii}
+use Rattle.page.specs.Page.{Text}
 use Rattle.image_statuses.specs.Statuses.{statusesOf, isShown}
-use Rattle.page_track.specs.Tally.{tally}
+use Rattle.page.specs.Tally.{tallyText}
 
 -- the line of a track, by its statuses
 unfoldable pub trackLine : ℕ → List ℕ → Text
 trackLine track statuses =
     ascii "track" ∷ numberText track
-    ∷ pick (anyNonzero statuses) (tally (ascii " reads") statuses ++ (ascii "\n" ∷ [])) (ascii " absent\n" ∷ [])
+    ∷ pick (anyNonzero statuses) (tallyText (ascii " reads") statuses ++ (ascii "\n" ∷ [])) (ascii " absent\n" ∷ [])
 
 -- a text by a track's statuses, where the track is one to speak of
 abbrev pub ifShown : (ℕ → List ℕ → Text) → ℕ → List ℕ → Text

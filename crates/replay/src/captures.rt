@@ -16,8 +16,8 @@ const ZONES: usize = 0x33800;
 pub fn span(window: &[u8], row: Row) {
     let ring = nib_orbit::recover_orbit(window, (row.c % 256) as u8);
     let mut line = [0u8; 128];
-    let mut at = lines::words(&mut line, 0, b"span");
-    at = lines::number(&mut line, at, ring.len() as u64);
+    let mut at = page::words(&mut line, 0, b"span");
+    at = page::number(&mut line, at, ring.len() as u64);
     rows::print(&mut line, at);
 }
 
@@ -58,12 +58,12 @@ fn all_slots(file: &[u8]) -> Slots {
 fn tell_slots(line: &mut [u8], file: &[u8]) -> usize {
     let zone = nib_slots::nib_zone(file, 0);
     match zone {
-        Zone::Refused(n) => lines::refused(line, 0, n),
+        Zone::Refused(n) => page::refused(line, 0, n),
         Zone::Is(_) => {
             let slots = all_slots(file);
-            let mut at = lines::words(line, 0, b"slots");
-            at = lines::number(line, at, slots.present);
-            lines::sum(line, at, slots.total)
+            let mut at = page::words(line, 0, b"slots");
+            at = page::number(line, at, slots.present);
+            page::sum(line, at, slots.total)
         }
     }
 }
@@ -78,14 +78,14 @@ pub fn whole(file: &[u8]) {
 fn tell_slot(line: &mut [u8], file: &[u8], slot: usize) -> usize {
     let zone = nib_slots::nib_zone(file, slot);
     match zone {
-        Zone::Refused(n) => lines::refused(line, 0, n),
+        Zone::Refused(n) => page::refused(line, 0, n),
         Zone::Is(z) => {
             let ring = nib_slots::nib_ring(file, slot);
-            let mut at = lines::words(line, 0, b"zone");
-            at = lines::number(line, at, z as u64);
-            at = lines::words(line, at, b" length");
-            at = lines::number(line, at, ring.len() as u64);
-            lines::sum(line, at, sum::mix_all(sum::START, ring))
+            let mut at = page::words(line, 0, b"zone");
+            at = page::number(line, at, z as u64);
+            at = page::words(line, at, b" length");
+            at = page::number(line, at, ring.len() as u64);
+            page::sum(line, at, sum::mix_all(sum::START, ring))
         }
     }
 }
@@ -118,10 +118,10 @@ fn read_lengths(lengths: &mut [u64], source: &[u8])
 fn tell_encoded(line: &mut [u8], answer: Encoded) -> usize {
     match answer {
         Encoded::Written(n) => {
-            let at = lines::words(line, 0, b"encoded");
-            lines::number(line, at, n as u64)
+            let at = page::words(line, 0, b"encoded");
+            page::number(line, at, n as u64)
         }
-        Encoded::Refused(n) => lines::refused(line, 0, n),
+        Encoded::Refused(n) => page::refused(line, 0, n),
     }
 }
 
@@ -133,7 +133,7 @@ fn encode_into(room: &mut [u8], source: &[u8], row: Row, lengths: &[u64]) {
         &mut line,
         nib_write::encode_nib(lengths, zones, rings, room),
     );
-    at = lines::sum(&mut line, at, sum::mix_all(sum::START, room));
+    at = page::sum(&mut line, at, sum::mix_all(sum::START, room));
     rows::print(&mut line, at);
 }
 

@@ -15,12 +15,12 @@ fn cleared(image: &mut [u8], kind: u32) -> Outcome {
 fn tell(line: &mut [u8], answer: Outcome) -> usize {
     match answer {
         Outcome::Cleared { free, changed } => {
-            let mut at = lines::words(line, 0, b"free");
-            at = lines::number(line, at, free as u64);
-            at = lines::words(line, at, b" changed");
-            lines::number(line, at, changed as u64)
+            let mut at = page::words(line, 0, b"free");
+            at = page::number(line, at, free as u64);
+            at = page::words(line, at, b" changed");
+            page::number(line, at, changed as u64)
         }
-        Outcome::Refused(n) => lines::refused(line, 0, n),
+        Outcome::Refused(n) => page::refused(line, 0, n),
     }
 }
 
@@ -28,6 +28,6 @@ fn tell(line: &mut [u8], answer: Outcome) -> usize {
 pub fn clear(image: &mut [u8], row: Row) {
     let mut line = [0u8; 128];
     let mut at = tell(&mut line, cleared(image, row.c));
-    at = lines::sum(&mut line, at, sum::mix_all(sum::START, image));
+    at = page::sum(&mut line, at, sum::mix_all(sum::START, image));
     rows::print(&mut line, at);
 }

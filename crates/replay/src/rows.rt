@@ -66,6 +66,6 @@ pub fn part(bytes: &[u8], at: usize, n: usize) -> &[u8] {
 
 // A line with its end, written.
 pub fn print(line: &mut [u8], at: usize) {
-    let n = lines::words(line, at, b"\n");
-    io::write_all(STDOUT_FILENO, lines::so_far(line, n));
+    let n = page::words(line, at, b"\n");
+    io::write_all(STDOUT_FILENO, page::so_far(line, n));
 }

@@ -14,11 +14,11 @@ fn decoded(ring: &[u8], track: u8, number: u8, unique: bool) -> Sector {
 
 fn tell_sector(line: &mut [u8], answer: Sector) -> usize {
     if !answer.ok {
-        return lines::refused(line, 0, answer.number);
+        return page::refused(line, 0, answer.number);
     }
     let bytes = answer.bytes;
-    let at = lines::words(line, 0, b"sector");
-    lines::sum(line, at, sum::mix_all(sum::START, &bytes))
+    let at = page::words(line, 0, b"sector");
+    page::sum(line, at, sum::mix_all(sum::START, &bytes))
 }
 
 // Rows u and c.
@@ -38,8 +38,8 @@ fn replaced(ring: &mut [u8], track: u8, number: u8, bytes: &[u8; 256], unique: b
 
 fn tell_replaced(line: &mut [u8], answer: Replaced) -> usize {
     match answer {
-        Replaced::Written => lines::words(line, 0, b"written"),
-        Replaced::Refused(n) => lines::refused(line, 0, n),
+        Replaced::Written => page::words(line, 0, b"written"),
+        Replaced::Refused(n) => page::refused(line, 0, n),
     }
 }
 
@@ -48,7 +48,7 @@ fn replace_by(ring: &mut [u8], row: Row, bytes: &[u8; 256], unique: bool) {
     let number = (row.d % 256) as u8;
     let mut line = [0u8; 128];
     let mut at = tell_replaced(&mut line, replaced(ring, track, number, bytes, unique));
-    at = lines::sum(&mut line, at, sum::mix_all(sum::START, ring));
+    at = page::sum(&mut line, at, sum::mix_all(sum::START, ring));
     rows::print(&mut line, at);
 }
 

@@ -26,10 +26,10 @@ pub fn build(room: &mut [u8], source: &[u8], row: Row) -> Built {
 fn tell_built(line: &mut [u8], answer: Built) -> usize {
     match answer {
         Built::Written(n) => {
-            let at = lines::words(line, 0, b"built");
-            lines::number(line, at, n as u64)
+            let at = page::words(line, 0, b"built");
+            page::number(line, at, n as u64)
         }
-        Built::Refused(n) => lines::refused(line, 0, n),
+        Built::Refused(n) => page::refused(line, 0, n),
     }
 }
 
@@ -37,7 +37,7 @@ fn tell_built(line: &mut [u8], answer: Built) -> usize {
 pub fn build_and_tell(room: &mut [u8], source: &[u8], row: Row) {
     let mut line = [0u8; 128];
     let mut at = tell_built(&mut line, build(room, source, row));
-    at = lines::sum(&mut line, at, sum::mix_all(sum::START, room));
+    at = page::sum(&mut line, at, sum::mix_all(sum::START, room));
     rows::print(&mut line, at);
 }
 
@@ -77,15 +77,15 @@ fn records_sum(numbers: &[u64], payloads: &[u8], n: usize) -> u32
 fn tell_records(line: &mut [u8], answer: Scanned, numbers: &[u64], payloads: &[u8]) -> usize {
     match answer {
         Scanned::Records(n) => {
-            let mut at = lines::words(line, 0, b"records");
-            at = lines::number(line, at, n as u64);
-            lines::sum(
+            let mut at = page::words(line, 0, b"records");
+            at = page::number(line, at, n as u64);
+            page::sum(
                 line,
                 at,
                 records_sum(numbers, payloads, least(n, MOST_RECORDS)),
             )
         }
-        Scanned::Refused(n) => lines::refused(line, 0, n),
+        Scanned::Refused(n) => page::refused(line, 0, n),
     }
 }
 
@@ -124,7 +124,7 @@ fn put_statuses(line: &mut [u8], from: usize, statuses: &[u8]) -> usize {
     let mut at = from;
     let mut i: usize = 0;
     while i < statuses.len() {
-        at = lines::words(line, at, &[48 + statuses[i] % 10]);
+        at = page::words(line, at, &[48 + statuses[i] % 10]);
         i += 1;
     }
     at
@@ -133,13 +133,13 @@ fn put_statuses(line: &mut [u8], from: usize, statuses: &[u8]) -> usize {
 fn tell_track(line: &mut [u8], answer: TrackRead, payloads: &[u8], statuses: &[u8]) -> usize {
     match answer {
         TrackRead::Found(n) => {
-            let mut at = lines::words(line, 0, b"found");
-            at = lines::number(line, at, n as u64);
-            at = lines::words(line, at, b" status ");
+            let mut at = page::words(line, 0, b"found");
+            at = page::number(line, at, n as u64);
+            at = page::words(line, at, b" status ");
             at = put_statuses(line, at, statuses);
-            lines::sum(line, at, sum::mix_all(sum::START, payloads))
+            page::sum(line, at, sum::mix_all(sum::START, payloads))
         }
-        TrackRead::Refused(n) => lines::refused(line, 0, n),
+        TrackRead::Refused(n) => page::refused(line, 0, n),
     }
 }
 

@@ -196,7 +196,7 @@ fn tally(c: Counts, cut: Cut, payloads: &[u8], out: &[u8], statuses: &[u8]) -> C
     requires { ⌜ cut .place < 200000 ⌝ }
 {
     let count = sectors(cut.track);
-    let told = lines::so_far(statuses, count);
+    let told = page::so_far(statuses, count);
     let mut next = c;
     for j in 0..count {
         if j < told.len() {
@@ -317,23 +317,23 @@ fn run(track: u8) -> Counts {
 fn show(track: u8) {
     let c = run(track);
     let mut line = [0u8; 256];
-    let mut at = lines::words(&mut line, 0, b"track");
-    at = lines::number(&mut line, at, track as u64);
-    at = lines::words(&mut line, at, b" reads");
-    at = lines::number(&mut line, at, c.reads);
-    at = lines::words(&mut line, at, b" escaped");
-    at = lines::number(&mut line, at, c.escaped);
-    at = lines::words(&mut line, at, b" hit own");
-    at = lines::number(&mut line, at, c.own);
-    at = lines::words(&mut line, at, b" hit missing");
-    at = lines::number(&mut line, at, c.missing);
-    at = lines::words(&mut line, at, b" spoiled missing");
-    at = lines::number(&mut line, at, c.spoiled);
-    at = lines::words(&mut line, at, b" other");
-    at = lines::number(&mut line, at, c.other);
-    at = lines::sum(&mut line, at, c.total);
-    at = lines::words(&mut line, at, b"\n");
-    io::write_all(STDOUT_FILENO, lines::so_far(&line, at));
+    let mut at = page::words(&mut line, 0, b"track");
+    at = page::number(&mut line, at, track as u64);
+    at = page::words(&mut line, at, b" reads");
+    at = page::number(&mut line, at, c.reads);
+    at = page::words(&mut line, at, b" escaped");
+    at = page::number(&mut line, at, c.escaped);
+    at = page::words(&mut line, at, b" hit own");
+    at = page::number(&mut line, at, c.own);
+    at = page::words(&mut line, at, b" hit missing");
+    at = page::number(&mut line, at, c.missing);
+    at = page::words(&mut line, at, b" spoiled missing");
+    at = page::number(&mut line, at, c.spoiled);
+    at = page::words(&mut line, at, b" other");
+    at = page::number(&mut line, at, c.other);
+    at = page::sum(&mut line, at, c.total);
+    at = page::words(&mut line, at, b"\n");
+    io::write_all(STDOUT_FILENO, page::so_far(&line, at));
 }
 
 fn main() {

@@ -64,17 +64,17 @@ fn decoded(p: Part, code: [u8; 5]) -> Part {
 
 // A line with its end, written.
 fn write(line: &mut [u8], at: usize) {
-    let n = lines::words(line, at, b"\n");
-    io::write_all(STDOUT_FILENO, lines::so_far(line, n));
+    let n = page::words(line, at, b"\n");
+    io::write_all(STDOUT_FILENO, page::so_far(line, n));
 }
 
 fn show(name: &[u8], p: Part, what: &[u8]) {
     let mut line = [0u8; 128];
-    let mut at = lines::words(&mut line, 0, name);
-    at = lines::number(&mut line, at, p.count);
-    at = lines::words(&mut line, at, what);
-    at = lines::number(&mut line, at, p.kept);
-    at = lines::sum(&mut line, at, p.total);
+    let mut at = page::words(&mut line, 0, name);
+    at = page::number(&mut line, at, p.count);
+    at = page::words(&mut line, at, what);
+    at = page::number(&mut line, at, p.kept);
+    at = page::sum(&mut line, at, p.total);
     write(&mut line, at);
 }
 

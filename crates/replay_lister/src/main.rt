@@ -17,7 +17,7 @@ fn show(name: &[u8], input: &[u8]) {
     let mut out = [0u8; lister::LONGEST_LISTING];
     let answer = lister::list_ring(input, &mut out);
     match answer {
-        Listed::Written(n) => write(lines::so_far(&out, n)),
+        Listed::Written(n) => write(page::so_far(&out, n)),
         Listed::Refused(_) => write(b"no room\n"),
     }
 }

@@ -5,10 +5,10 @@ use Rattle.desk_orbit.proofs.put_lines.Statement.{statement}
 use Rattle.desk_orbit.proofs.put_lines.Tie as tie
 
 abbrev Inv-loop : tie.InvT-loop
-Inv-loop file slot₀ slot = slot ≤ 84
+Inv-loop file pairs slot₀ slot = slot ≤ 84
 
 abbrev μ-loop : tie.MeasureT-loop
-μ-loop file slot₀ slot = 84 - slot
+μ-loop file pairs slot₀ slot = 84 - slot
 
 loop-holds : tie.Need-loop-holds Inv-loop μ-loop
 loop-holds c = omega arith

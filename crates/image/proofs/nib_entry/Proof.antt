@@ -1,5 +1,5 @@
 use Rattle.nib_catalogue.specs.declared.Entry.the-variants.{At as Pair}
-use Rattle.nib_catalogue.specs.Catalogue.{placeOf}
+use Rattle.nib_catalogue.specs.Catalogue.{entryWith}
 use Rattle.nib_catalogue.proofs.Cataloguing.{counted, place-in}
 use Rattle.image.proofs.NibLaws.{window-is, window-absent, window-refused}
 use Prim.Native.Nat.{_+_, _<_}
@@ -11,7 +11,7 @@ use Rattle.image.proofs.nib_entry.Statement.{statement}
 use Rattle.image.proofs.nib_entry.Tie as tie
 
 place-is : (c : tie.After-entry)
-    → placeOf (c .before .before .before .before .args .image .now) (c .before .before .before .before .args .slot + 2)
+    → entryWith (c .before .before .before .before .args .image .now) (c .before .before .before .before .args .slot + 2)
     (c .before .before .before .before .args .n)
     ≡ Pair (c .entry .given .0 .0)
 place-is c = sym (c .before .before .find-code .ensures) ∙ c .entry .given .1

@@ -1,5 +1,5 @@
 use Rattle.nib_catalogue.proofs.Cataloguing.{place-none, place-here, place-on}
-use Rattle.nib_catalogue.specs.Catalogue.{placeOf}
+use Rattle.nib_catalogue.specs.Catalogue.{entryWith}
 use borrow.Author.Needs.{needs}
 use Prim.Native.Nat.{_≤_}
 use mathlib.Core.Path.{_≡_, refl, sym, _∙_}
@@ -9,7 +9,7 @@ use Rattle.nib_catalogue.proofs.find_code.Statement.{statement}
 use Rattle.nib_catalogue.proofs.find_code.Tie as tie
 
 abbrev Inv-loop : tie.InvT-loop
-Inv-loop image code n k₀ k = (k ≤ n) × (placeOf image code k ≡ placeOf image code n)
+Inv-loop image code n k₀ k = (k ≤ n) × (entryWith image code k ≡ entryWith image code n)
 
 abbrev μ-loop : tie.MeasureT-loop
 μ-loop image code n k₀ k = k

@@ -23,8 +23,8 @@ returns c =
     let s = c .before .before .before in
     rw (ne-eqb (length (s .args .window .now)) 8192 (c .before .if1 .taken))
 
-choose-span-requires : tie.Need-choose-span-requires
-choose-span-requires c κs = search needs
+estimate-orbit-requires : tie.Need-estimate-orbit-requires
+estimate-orbit-requires c κs = search needs
 
 sub-result-2 : tie.Need-sub-result-2
 sub-result-2 c = search needs
@@ -40,7 +40,7 @@ unfolding recovered
 returns-2 c =
     let k = c .before in
     let s = k .before .before .before in
-    rw (eq-eqb (length (s .args .window .now)) 8192 (omega arith), sub-zero, k .choose-span .ensures .0)
+    rw (eq-eqb (length (s .args .window .now)) 8192 (omega arith), sub-zero, k .estimate-orbit .ensures .0)
 
 pub recover-orbit-spec : {M : Type 1} → statement M
 recover-orbit-spec =
@@ -50,7 +50,7 @@ recover-orbit-spec =
     part-result-start
     part-result-end
     returns
-    choose-span-requires
+    estimate-orbit-requires
     sub-result-2
     part-result-start-2
     part-result-end-2

@@ -1,4 +1,4 @@
-use Rattle.nib_slots.proofs.Slotting.{Held, held, cut, ring-refused, ring-absent, ring-is}
+use Rattle.nib_slots.proofs.Slotting.{Held, held, zone-there, window-there, ring-refused, ring-absent, ring-by}
 use Rattle.nib_slots.specs.Slots.{entryOf}
 use Rattle.nib_catalogue.specs.declared.Entry.the-variants.{At}
 use mathlib.Core.Path.{_≡_, sym, _∙_}
@@ -22,32 +22,11 @@ entry-of-requires c κs = search needs
 enum-known-entry : tie.Need-enum-known-entry
 enum-known-entry c = search needs
 
-mul-at : tie.Need-mul-at
-mul-at c = omega (arith, inside (c .before))
+zone-at-requires : tie.Need-zone-at-requires
+zone-at-requires c κs = zone-there (inside (c .before))
 
-add-at : tie.Need-add-at
-add-at c = omega (arith, inside (c .before))
-
-add-end : tie.Need-add-end
-add-end c = omega (arith, inside (c .before))
-
-mul-zone : tie.Need-mul-zone
-mul-zone c = omega (arith, inside (c .before))
-
-add-zone : tie.Need-add-zone
-add-zone c = omega (arith, inside (c .before))
-
-shared-slice-read-zone : tie.Need-shared-slice-read-zone
-shared-slice-read-zone c = omega (arith, inside (c .before .before))
-
-sub-recover-orbit : tie.Need-sub-recover-orbit
-sub-recover-orbit c = search needs
-
-part-recover-orbit-start : tie.Need-part-recover-orbit-start
-part-recover-orbit-start c = search needs
-
-part-recover-orbit-end : tie.Need-part-recover-orbit-end
-part-recover-orbit-end c = omega (arith, inside (c .before .before))
+window-at-requires : tie.Need-window-at-requires
+window-at-requires c κs = window-there (inside (c .before .before))
 
 recover-orbit-requires : tie.Need-recover-orbit-requires
 recover-orbit-requires c κs = search needs
@@ -80,8 +59,9 @@ returns : tie.Need-returns
 returns c =
     let k = c .before .before .before .before in
     let a = k .before .before .before .before .args in
-    let n = k .entry .given .0 .0 in
-    c .recover-orbit .ensures ∙ cut (a .image .now) n ∙ ring-is (a .image .now) (a .slot) n (place-is k)
+    c .recover-orbit .ensures
+    ∙ ring-by (a .image .now) (a .slot) (k .entry .given .0 .0) (place-is k) _ _ (c .before .window-at .ensures)
+    (c .before .before .zone-at .ensures)
 
 returns-2 : tie.Need-returns-2
 returns-2 c =
@@ -103,15 +83,8 @@ nib-ring-spec =
     (tie.spec
     entry-of-requires
     enum-known-entry
-    mul-at
-    add-at
-    add-end
-    mul-zone
-    add-zone
-    shared-slice-read-zone
-    sub-recover-orbit
-    part-recover-orbit-start
-    part-recover-orbit-end
+    zone-at-requires
+    window-at-requires
     recover-orbit-requires
     enum-told
     sub-result

@@ -1,10 +1,9 @@
-use Rattle.nib_slots.proofs.Slotting.{Held, held, cut, slot-refused, slot-absent, slot-is}
+use Rattle.nib_slots.proofs.Slotting.{Held, held, zone-there, window-there, slot-refused, slot-absent, slot-by, whole-by}
 use Rattle.nib_slots.specs.Slots.{entryOf}
 use Rattle.nib_catalogue.specs.declared.Entry.the-variants.{At}
-use mathlib.Core.Path.{_≡_, sym, ap, _∙_}
+use mathlib.Core.Path.{_≡_, sym, _∙_}
 use native.Mathlib.Omega.{arith}
 use denote.Ref.{now}
-use lib.ListN.{length}
 use borrow.Author.Needs.{needs}
 use Rattle.nib_slots.proofs.nib_slot.Statement.{statement}
 use Rattle.nib_slots.proofs.nib_slot.Tie as tie
@@ -23,35 +22,23 @@ entry-of-requires c κs = search needs
 enum-known-entry : tie.Need-enum-known-entry
 enum-known-entry c = search needs
 
-mul-at : tie.Need-mul-at
-mul-at c = omega (arith, inside (c .before))
+zone-at-requires : tie.Need-zone-at-requires
+zone-at-requires c κs = zone-there (inside (c .before))
 
-add-at : tie.Need-add-at
-add-at c = omega (arith, inside (c .before))
+window-at-requires : tie.Need-window-at-requires
+window-at-requires c κs = window-there (inside (c .before .before))
 
-add-end : tie.Need-add-end
-add-end c = omega (arith, inside (c .before))
+estimate-orbit-requires : tie.Need-estimate-orbit-requires
+estimate-orbit-requires c κs =
+    let k = c .before .before .before in
+    let a = k .before .before .before .before .args in
+    whole-by (a .image .now) (a .slot) (k .entry .given .0 .0) (place-is k) _ (c .window-at .ensures)
 
-mul-zone : tie.Need-mul-zone
-mul-zone c = omega (arith, inside (c .before))
+mul-t10 : tie.Need-mul-t10
+mul-t10 c = omega (arith, inside (c .before .before .before .before))
 
-add-zone : tie.Need-add-zone
-add-zone c = omega (arith, inside (c .before))
-
-shared-slice-read-zone : tie.Need-shared-slice-read-zone
-shared-slice-read-zone c = omega (arith, inside (c .before .before))
-
-sub-recover-orbit : tie.Need-sub-recover-orbit
-sub-recover-orbit c = search needs
-
-part-recover-orbit-start : tie.Need-part-recover-orbit-start
-part-recover-orbit-start c = search needs
-
-part-recover-orbit-end : tie.Need-part-recover-orbit-end
-part-recover-orbit-end c = omega (arith, inside (c .before .before))
-
-recover-orbit-requires : tie.Need-recover-orbit-requires
-recover-orbit-requires c κs = search needs
+add-t11 : tie.Need-add-t11
+add-t11 c = omega (arith, inside (c .before .before .before .before))
 
 enum-told : tie.Need-enum-told
 enum-told c = search needs
@@ -63,9 +50,8 @@ returns : tie.Need-returns
 returns c =
     let k = c .before .before .before .before in
     let a = k .before .before .before .before .args in
-    let n = k .entry .given .0 .0 in
-    slot-is (a .image .now) (a .slot) n (place-is k) (length (c .recover-orbit .result .now))
-    (ap length (c .recover-orbit .ensures ∙ cut (a .image .now) n))
+    slot-by (a .image .now) (a .slot) (k .entry .given .0 .0) (place-is k) _ _ _ (c .before .window-at .ensures)
+    (c .before .before .zone-at .ensures) (c .estimate-orbit .ensures .0)
 
 returns-2 : tie.Need-returns-2
 returns-2 c =
@@ -86,16 +72,11 @@ nib-slot-spec =
     (tie.spec
     entry-of-requires
     enum-known-entry
-    mul-at
-    add-at
-    add-end
-    mul-zone
-    add-zone
-    shared-slice-read-zone
-    sub-recover-orbit
-    part-recover-orbit-start
-    part-recover-orbit-end
-    recover-orbit-requires
+    zone-at-requires
+    window-at-requires
+    estimate-orbit-requires
+    mul-t10
+    add-t11
     enum-told
     enum-known-entry-2
     returns

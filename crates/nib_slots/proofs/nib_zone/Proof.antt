@@ -1,4 +1,4 @@
-use Rattle.nib_slots.proofs.Slotting.{Held, held, zone-refused, zone-absent, zone-is}
+use Rattle.nib_slots.proofs.Slotting.{Held, held, zone-there, zone-refused, zone-absent, zone-is}
 use Rattle.nib_slots.specs.Slots.{entryOf}
 use Rattle.nib_catalogue.specs.declared.Entry.the-variants.{At}
 use mathlib.Core.Path.{_≡_, sym, _∙_}
@@ -22,14 +22,8 @@ entry-of-requires c κs = search needs
 enum-known-entry : tie.Need-enum-known-entry
 enum-known-entry c = search needs
 
-mul-t7 : tie.Need-mul-t7
-mul-t7 c = omega (arith, inside (c .before))
-
-add-t8 : tie.Need-add-t8
-add-t8 c = omega (arith, inside (c .before))
-
-shared-slice-read-t10 : tie.Need-shared-slice-read-t10
-shared-slice-read-t10 c = omega (arith, inside (c .before .before))
+zone-at-requires : tie.Need-zone-at-requires
+zone-at-requires c κs = zone-there (inside (c .before))
 
 enum-told : tie.Need-enum-told
 enum-told c = search needs
@@ -41,7 +35,7 @@ returns : tie.Need-returns
 returns c =
     let k = c .before .before in
     let a = k .before .before .before .before .args in
-    zone-is (a .image .now) (a .slot) (k .entry .given .0 .0) (place-is k)
+    rw (c .zone-at .ensures) (zone-is (a .image .now) (a .slot) (k .entry .given .0 .0) (place-is k))
 
 returns-2 : tie.Need-returns-2
 returns-2 c =
@@ -62,9 +56,7 @@ nib-zone-spec =
     (tie.spec
     entry-of-requires
     enum-known-entry
-    mul-t7
-    add-t8
-    shared-slice-read-t10
+    zone-at-requires
     enum-told
     enum-known-entry-2
     returns

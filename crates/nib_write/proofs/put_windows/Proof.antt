@@ -1,7 +1,7 @@
 use lib.ListN.{length-take, length-drop}
 use Rattle.nib_write.proofs.Laying.{rings-start, rings-one, rings-skip, rings-mono}
 use Rattle.nib_write.proofs.Laying.{sum-start, sum-next, sum-le, windows-skip, windows-one}
-use Rattle.nib_write.specs.Encoding.{sumTo, windowOf, ringsTo}
+use Rattle.nib_write.specs.Encoding.{sumTo, slotWindow, ringsTo}
 use Rattle.base.specs.Lists.{joined}
 use Rattle.base.proofs.Lists.{joined-empty}
 use lib.Seq.{sets}
@@ -19,7 +19,7 @@ use Rattle.nib_write.proofs.put_windows.Tie as tie
 abbrev Inv-loop : tie.InvT-loop
 Inv-loop out₀ lengths rings at₀ from₀ slot₀ out at from slot =
     (slot ≤ 84) × (length out ≡ length out₀) × (from ≡ sumTo lengths slot) × (at ≡ 256 + 8192 * ringsTo lengths slot)
-    × (out ≡ sets out₀ 256 (joined slot (windowOf lengths rings)))
+    × (out ≡ sets out₀ 256 (joined slot (slotWindow lengths rings)))
 
 abbrev μ-loop : tie.MeasureT-loop
 μ-loop out₀ lengths rings at₀ from₀ slot₀ out at from slot = 84 - slot
@@ -52,7 +52,7 @@ loop-holds c =
       refl,
       sym (sum-start (a .lengths .now)),
       omega (arith, rings-start (a .lengths .now)),
-      sym (ap (sets (a .out .now) 256) (joined-empty (windowOf (a .lengths .now) (a .rings .now)))),
+      sym (ap (sets (a .out .now) 256) (joined-empty (slotWindow (a .lengths .now) (a .rings .now)))),
     )
 
 length-at-requires : tie.Need-length-at-requires Inv-loop μ-loop

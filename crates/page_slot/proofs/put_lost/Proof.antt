@@ -2,8 +2,8 @@ use mathlib.Core.Path.{_≡_, refl, _∙_}
 use Prim.Native.Nat.{_-_, _≤_}
 use native.Mathlib.Omega.{arith}
 use lib.ListN.{length}
-use Rattle.pages.specs.Page.{sheet, writes, together}
-use Rattle.pages.proofs.PageLaws.{none-together, one-more}
+use Rattle.page.specs.Page.{sheet, writes, together}
+use Rattle.page.proofs.PageLaws.{none-together, one-more}
 use Rattle.page_slot.specs.Sectors.{lostAt}
 use Rattle.page_slot.proofs.SectorLaws.{all-lost}
 use borrow.Author.Needs.{needs}

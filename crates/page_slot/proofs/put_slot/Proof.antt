@@ -1,47 +1,46 @@
 use native.Mathlib.Omega.{arith}
-use mathlib.Core.Path.{_≡_, sym, ap, _∙_}
-use mathlib.Core.List.{List}
-use Prim.Native.Nat.{ℕ, _+_, _-_}
-use lib.ListN.{length, take, drop, length-drop}
-use lib.Seq.{length-take-le}
-use Rattle.pages.specs.Page.{sheet, writes}
-use Rattle.pages.proofs.PageLaws.{nothing}
-use Rattle.page_slot.specs.Slots.{slotLine}
-use Rattle.page_slot.proofs.SlotLaws.{Placed, placed, text-is, window-is}
+use mathlib.Core.Path.{ap}
+use Rattle.nib_catalogue.proofs.Cataloguing.{counted}
+use Rattle.nib_slots.proofs.Slotting.{Held, zone-there, window-there}
+use Rattle.page_slot.specs.Slots.{slotTextBy}
+use Rattle.page_slot.proofs.SlotLaws.{pair-held, window-long, text-at, text-none}
 use borrow.Author.Needs.{needs}
 use Rattle.page_slot.proofs.put_slot.Statement.{statement}
 use Rattle.page_slot.proofs.put_slot.Tie as tie
 
-lies : (c : tie.After-found) → Placed (c .before .before .before .before .before .args .file .now)
-    (c .before .before .before .before .before .args .slot) (c .found .given .0 .0) (c .found .given .0 .1 .0)
-lies c = placed _ _ _ _ _ (sym (c .before .before .nib-slot .ensures) ∙ c .found .given .1)
+-- the pair that was found
+there : (c : tie.After-entry) → Held (c .before .before .before .before .before .args .file .now) (c .entry .given .0 .0)
+there c =
+    let s = c .before .before .before .before .before in
+    pair-held (s .args .file .now) (s .args .slot) (s .args .pairs) (s .pre .0) (s .pre .1) _ (c .before .before .find-code .ensures) _
+    (c .entry .given .1)
 
-nib-slot-requires : tie.Need-nib-slot-requires
-nib-slot-requires c κs = search needs
+add-find-code : tie.Need-add-find-code
+add-find-code c = search needs
 
-enum-known-found : tie.Need-enum-known-found
-enum-known-found c = search needs
+cast-find-code : tie.Need-cast-find-code
+cast-find-code c = search needs
 
-add-end : tie.Need-add-end
-add-end c = omega (arith, lies (c .before))
+find-code-requires : tie.Need-find-code-requires
+find-code-requires c κs =
+    let s = c .before .before in
+    let k = counted (s .args .file .now) (s .args .pairs) (s .pre .0) in
+    (k .few, omega (arith, k .whole))
 
-sub-put-window : tie.Need-sub-put-window
-sub-put-window c = search needs
+enum-known-entry : tie.Need-enum-known-entry
+enum-known-entry c = search needs
 
-part-put-window-start : tie.Need-part-put-window-start
-part-put-window-start c = search needs
+zone-at-requires : tie.Need-zone-at-requires
+zone-at-requires c κs = zone-there (there (c .before))
 
-part-put-window-end : tie.Need-part-put-window-end
-part-put-window-end c = omega (arith, lies (c .before .before))
+window-at-requires : tie.Need-window-at-requires
+window-at-requires c κs = window-there (there (c .before .before .before))
 
 put-window-requires : tie.Need-put-window-requires
 put-window-requires c κs =
-    let w = lies (c .before .before .before) in
-    let f = c .before .before .before .before .before .before .before .before .args .file .now in
-    let s = c .before .before .before .found .given .0 .0 in
-    let l : length (take (s + 8192 - s) (drop s f)) ≡ s + 8192 - s =
-    length-take-le (s + 8192 - s) (drop s f) (omega (arith, length-drop s f, w)) in
-    (record { some = omega (arith, l); small = omega (arith, l) }, omega (arith, w, l), w .low)
+    let k = c .before .before .before .before in
+    let s = k .before .before .before .before .before in
+    (window-long (s .args .file .now) (k .entry .given .0 .0) _ (c .window-at .ensures) (there k), s .pre .1)
 
 enum-told : tie.Need-enum-told
 enum-told c = search needs
@@ -54,36 +53,34 @@ same-length c = search needs
 
 returns : tie.Need-returns
 returns c =
-    let a = c .before .before .before .before .before .before .before .before .before .before .before .args in
-    let g = c .before .before .before .before .before .before .found .given in
-    text-is (a .file .now) (a .slot) _ _ _
-    (sym (c .before .before .before .before .before .before .before .before .nib-slot .ensures) ∙ g .1)
-    (c .before .before .put-window .ensures
-    ∙ ap (λ (w : List ℕ). writes (sheet (a .page .now) (a .at)) (slotLine w (a .slot) (g .0 .1 .0) (g .0 .1 .1 .0)))
-    (window-is (a .file .now) (g .0 .0)))
+    let k = c .before .before .before .before .before .before .before in
+    let s = k .before .before .before .before .before in
+    text-at (s .args .file .now) (s .args .slot) (s .args .pairs) (s .pre .0) (s .pre .1) _ (k .before .before .find-code .ensures)
+    (k .entry .given .0 .0) (k .entry .given .1) _ _ _ _ (c .before .before .before .window-at .ensures) (c .before .before .before .before .before .zone-at .ensures)
+    (c .before .before .put-window .ensures)
 
 returns-2 : tie.Need-returns-2
 returns-2 c =
-    let a = c .before .before .before .before .before .args in
-    text-is (a .file .now) (a .slot) _ _ _ (sym (c .before .before .nib-slot .ensures) ∙ c .enum-told .given .1)
-    (nothing (sheet (a .page .now) (a .at)))
+    let s = c .before .before .before .before .before in
+    text-none (s .args .file .now) (s .args .slot) (s .args .pairs) (s .pre .0) (s .pre .1) _ _ (c .before .before .find-code .ensures)
+    (ap (slotTextBy (s .args .file .now) (s .args .slot)) (c .enum-told .given .1))
 
 returns-3 : tie.Need-returns-3
 returns-3 c =
-    let a = c .before .before .before .before .before .args in
-    text-is (a .file .now) (a .slot) _ _ _ (sym (c .before .before .nib-slot .ensures) ∙ c .enum-told2 .given .1)
-    (nothing (sheet (a .page .now) (a .at)))
+    let s = c .before .before .before .before .before in
+    text-none (s .args .file .now) (s .args .slot) (s .args .pairs) (s .pre .0) (s .pre .1) _ _ (c .before .before .find-code .ensures)
+    (ap (slotTextBy (s .args .file .now) (s .args .slot)) (c .enum-told2 .given .1))
 
 pub put-slot-spec : {M : Type 1} → statement M
 put-slot-spec =
     tie.close
     (tie.spec
-    nib-slot-requires
-    enum-known-found
-    add-end
-    sub-put-window
-    part-put-window-start
-    part-put-window-end
+    add-find-code
+    cast-find-code
+    find-code-requires
+    enum-known-entry
+    zone-at-requires
+    window-at-requires
     put-window-requires
     enum-told
     enum-told-2

@@ -3,9 +3,6 @@ use borrow.Author.Needs.{needs}
 use Rattle.page_slot.proofs.put_span.Statement.{statement}
 use Rattle.page_slot.proofs.put_span.Tie as tie
 
-agreements-requires : tie.Need-agreements-requires
-agreements-requires c κs = search needs
-
 slice-aggregate-counted : tie.Need-slice-aggregate-counted
 slice-aggregate-counted c = search needs
 
@@ -27,9 +24,6 @@ counted-requires-3 c κs = search needs
 slice-aggregate-counted-4 : tie.Need-slice-aggregate-counted-4
 slice-aggregate-counted-4 c = search needs
 
-sub-counted : tie.Need-sub-counted
-sub-counted c = search needs
-
 counted-requires-4 : tie.Need-counted-requires-4
 counted-requires-4 c κs = search needs
 
@@ -38,23 +32,15 @@ same-length c = search needs
 
 returns : tie.Need-returns
 returns c =
-    let a = c .before .before .before .before .before .before .before .before .before .before .before .before .before .before .before
-    .before .before .before .before .before .before .before .before .args in
-    span-put _ _ _ _ _ (a .window .now) (a .span) (a .zone)
-    (c .before .before .before .before .before .before .before .before .before .before .before .before .before .before .before
-    .before .before .before .before .before .agreements .result)
-    (c .before .before .before .before .before .before .before .before .before .before .before .before .before .before
-    .before .before .before .before .before .before .agreements .ensures .0)
-    (c .before .before .before .before .before .before .before .before .before .before .before .before .before
-    .before .before .before .before .counted .ensures)
-    (c .before .before .before .before .before .before .before .before .before .before .before .before .counted2 .ensures)
-    (c .before .before .before .before .before .before .before .counted3 .ensures) (c .before .before .counted4 .ensures)
+    let d = c .before .before in
+    let e = d .before .before .before .before .before in
+    let f = e .before .before .before .before .before in
+    span-put _ _ _ _ _ _ _ (f .before .before .before .before .before .counted .ensures) (f .counted2 .ensures) (e .counted3 .ensures) (d .counted4 .ensures)
 
 pub put-span-spec : {M : Type 1} → statement M
 put-span-spec =
     tie.close
     (tie.spec
-    agreements-requires
     slice-aggregate-counted
     counted-requires
     slice-aggregate-counted-2
@@ -62,7 +48,6 @@ put-span-spec =
     slice-aggregate-counted-3
     counted-requires-3
     slice-aggregate-counted-4
-    sub-counted
     counted-requires-4
     same-length
     returns)

@@ -13,11 +13,11 @@ counted-requires c κs = search needs
 any-nonzero-requires : tie.Need-any-nonzero-requires
 any-nonzero-requires c κs = search needs
 
-slice-aggregate-put-tally : tie.Need-slice-aggregate-put-tally
-slice-aggregate-put-tally c = search needs
+slice-aggregate-tally : tie.Need-slice-aggregate-tally
+slice-aggregate-tally c = search needs
 
-put-tally-requires : tie.Need-put-tally-requires
-put-tally-requires c κs = search needs
+tally-requires : tie.Need-tally-requires
+tally-requires c κs = search needs
 
 slice-aggregate-words : tie.Need-slice-aggregate-words
 slice-aggregate-words c = search needs
@@ -36,7 +36,7 @@ returns c =
     (c .before .before .before .before .before .before .before .before .before .before .before .before .before .before .counted
     .ensures) _ (sym (c .before .before .before .before .before .before .before .before .before .before .before .any-nonzero
     .ensures) ∙ c .before .before .before .before .before .before .before .before .before .before .if1 .taken)
-    (c .before .before .before .before .before .before .before .put-tally .ensures) (c .before .before .words .ensures)
+    (c .before .before .before .before .before .before .before .tally .ensures) (c .before .before .words .ensures)
 
 slice-aggregate-words-2 : tie.Need-slice-aggregate-words-2
 slice-aggregate-words-2 c = search needs
@@ -63,8 +63,8 @@ put-statuses-spec =
     slice-aggregate-counted
     counted-requires
     any-nonzero-requires
-    slice-aggregate-put-tally
-    put-tally-requires
+    slice-aggregate-tally
+    tally-requires
     slice-aggregate-words
     words-requires
     same-length

@@ -3,7 +3,7 @@ use native.Mathlib.Omega.{arith}
 use mathlib.Core.List.{List}
 use mathlib.Core.Path.{ap, _∙_}
 use lib.ListN.{replicate}
-use Rattle.pages.specs.Page.{sheet, writes}
+use Rattle.page.specs.Page.{sheet, writes}
 use Rattle.page_track.specs.Tracks.{ifShown, trackLine}
 use Rattle.image_statuses.proofs.StatusLaws.{statuses-read}
 use borrow.Author.Needs.{needs}
