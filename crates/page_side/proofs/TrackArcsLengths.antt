@@ -1,4 +1,4 @@
--- How long the arcs of a track are: they fit on the page that the program lends, so that by `printed` (pages) all of them are written.
+-- How long the arcs of a track are: they fit on the page that the program lends, so that by `printed` (page) all of them are written.
 use mathlib.Core.List.{List}
 use Prim.Native.Nat.{ℕ, _<_}
 use native.Mathlib.Omega.{arith}

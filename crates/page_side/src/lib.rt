@@ -1,6 +1,5 @@
-// The frame of a picture of a disk's side as SVG text, put on a lent page: what stands before the arcs of the tracks, and behind them.
-// The arcs of a track's ring as SVG text, put on a lent page.
-// The arcs of a track of an image, for the picture, put on a lent page.
+// A picture of a disk's side as SVG text, put on a lent page: what stands before the tracks and behind them, and the arcs of a track of
+// an image, one a sector.
 ghost use mathlib.Core.Path.{_≡_};
 ghost use Rattle.page.specs.Page.{sheet, writes};
 ghost use Rattle.page_side.specs.Frame.{svgHead, svgEnd};
@@ -145,7 +144,7 @@ fn put_arc(page: &mut [u8], at: usize, track: u8, statuses: &[u8], j: usize) -> 
 }
 
 // The arcs of a track, by the statuses of its sectors: 1 reads, 0 absent, any other missing.
-pub fn put_svg_track(page: &mut [u8], at: usize, statuses: &[u8], track: u8) -> usize
+fn put_svg_track(page: &mut [u8], at: usize, statuses: &[u8], track: u8) -> usize
     ensures { λ r. ⌜ sheet (now (page .exit)) r ≡ writes (sheet (now (page .entry)) at) (svgTrack track (now (statuses .entry))) ⌝ }
 {
     let mut behind = at;

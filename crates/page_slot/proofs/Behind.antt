@@ -154,7 +154,7 @@ module _ (P : SectorRecord → Type 0) where
   both (r ∷ l) m t u = (t .0, both l m (t .1) u)
 
 -- a sector that is not handed out has no record
-no-record : (P : SectorRecord → Type 0) (j : ℕ) (l : List SectorRecord) → statusOf (firstOf j l) ≢ 1 → Every (λ r. r .sector ≡ j → P r) l
+pub no-record : (P : SectorRecord → Type 0) (j : ℕ) (l : List SectorRecord) → statusOf (firstOf j l) ≢ 1 → Every (λ r. r .sector ≡ j → P r) l
 unfolding firstOf
 no-record P j [] n = tt
 no-record P j (r ∷ l) n = (

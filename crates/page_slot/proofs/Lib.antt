@@ -2,6 +2,7 @@ pub mod SpanLaws
 pub mod SlotSpanLengths
 pub mod TurnLaws
 pub mod Behind
+pub mod Join
 pub mod SectorLaws
 pub mod SlotSectorsLengths
 pub mod SlotLaws

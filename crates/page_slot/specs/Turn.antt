@@ -1,8 +1,9 @@
 -- The turn of a window: the scan of the ring that its first bytes make, but read on in the window where the ring goes back to its
 -- beginning. Up to the join both see the same bits; a sector that the turn has and the ring has not was lost across the join.
-use Prim.Native.Nat.{ℕ, _*_}
+use Prim.Native.Nat.{ℕ, _+_, _*_, _<_}
 use mathlib.Core.List.{List}
 use Rattle.base.specs.Lists.{tab}
+use Rattle.geometry.specs.Blocks.{blockBits}
 use Rattle.geometry.specs.Zones.{sectorsOf}
 use Rattle.ring.specs.Bit.{bitAt}
 use Rattle.scan.specs.declared.SectorRecord.{SectorRecord}
@@ -16,3 +17,8 @@ turnRecords window span track = recordsFrom (bitAt window) track (8 * span) 0
 -- the statuses of the track's sectors among them: 1 for one that reads, 2 for one that does not
 unfoldable pub turnStatuses : List ℕ → ℕ → ℕ → List ℕ
 turnStatuses window span track = tab (sectorsOf track) (λ j. statusOf (firstOf j (turnRecords window span track)))
+
+-- a record that reaches over the join: it ends behind the first `span` bytes. Of a sector that the ring has not, every record of the
+-- turn does (`across-join` in proofs/Join), and of one that the turn has not, every record of the window lies behind (`only-behind`)
+abbrev pub AcrossJoin : ℕ → SectorRecord → Type 0
+AcrossJoin span r = 8 * span < r .place + blockBits

@@ -43,7 +43,7 @@ fn turn_statuses(window: &[u8], span: usize, track: u8, part: &mut [u8])
         }
         let sector = next.row.sector;
         part[sector] = track_read::HANDED_OUT;
-        bit = next.row.place + 2600;
+        bit = next.row.place + geometry::BLOCK_BITS;
     }
 }
 

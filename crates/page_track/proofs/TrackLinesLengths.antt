@@ -1,4 +1,4 @@
--- How long the line of a track is: it fits on the page that the program lends, so that by `printed` (pages) all of it is written.
+-- How long the line of a track is: it fits on the page that the program lends, so that by `printed` (page) all of it is written.
 use mathlib.Core.List.{List, [], _∷_, _++_}
 use Prim.Native.Nat.{ℕ, _≤_, _<_}
 use native.Mathlib.Omega.{arith}
