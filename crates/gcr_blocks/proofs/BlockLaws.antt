@@ -9,13 +9,13 @@ use Prim.Native.Nat.{ℕ, zero, suc, _+_, _*_, _-_, _≤_, _<_}
 use native.Mathlib.Numerals.{add-one}
 use native.Mathlib.Omega.{arith}
 use lib.ListN.{length, getD, take, drop, replicate, length-append, length-drop}
-use lib.Seq.{sets, sets-eq, take-append-le, drop-append-le}
+use lib.Seq.{sets, take-append-le, drop-append-le}
 use Rattle.base.specs.Bits.{bitIn}
 use Rattle.base.specs.Lists.{tab}
 use Rattle.base.specs.Refusals.{noRoom, illegalSymbol}
-use Rattle.base.proofs.InRow.{window, sets-more}
+use Rattle.base.proofs.InRow.{window, sets-more, sets-front}
 use Rattle.base.proofs.Lists.{length-tab}
-use Rattle.base.proofs.Tests.{leb-yes, leb-no}
+use Rattle.base.proofs.Tests.{ltb-yes, ltb-no}
 use Rattle.gcr.specs.Symbols.{Decoded, Bytes, IllegalAt, fromSymbols}
 use Rattle.gcr.specs.Groups.{encodeGroup, decodeGroup, encode}
 use Rattle.gcr.specs.Places.{decodeAt}
@@ -23,8 +23,9 @@ use Rattle.gcr.specs.Answers.{answer4}
 use Rattle.gcr.proofs.EncodeLaws.{length-encode, length-group}
 use Rattle.gcr.proofs.DecodeLaws.{decode-legal, decode-bytes, decode-more, decode-stop}
 use Rattle.gcr.proofs.AtPlaces.{group-in}
-use Rattle.gcr_blocks.specs.Blocks.{groupsFor, encodeBlock, groupsIn, decodeBlock}
-use Rattle.gcr_blocks.specs.Answers.{encoded, encodedOut, decoded, decodedOut, isReadable, bytesIn}
+use Rattle.gcr_blocks.specs.Blocks.{groupsFor, codeLength, encodeBlock, bytesLength, decodeBlock}
+use Rattle.gcr_blocks.specs.Answers.{codedNumber, encodeRefusal, encoded, encodedOut}
+use Rattle.gcr_blocks.specs.Answers.{decodeRefusal, decoded, decodedOut, isReadable, bytesIn}
 use Rattle.gcr_blocks.specs.declared.Coded.{Coded}
 use Rattle.gcr_blocks.specs.declared.Coded.the-variants.{Written, Refused}
 use Rattle.gcr_blocks.proofs.Runs.{encode-more}
@@ -38,11 +39,6 @@ encode-front (suc n) xs zs h =
     (ap (encode n) (drop-append-le 4 xs zs (omega arith)) ∙ encode-front n (drop 4 xs) zs (omega (arith, length-drop 4 xs)))
 
 -- stores from the front on
-front : (out vs : List ℕ) (n : ℕ) → length vs ≡ n → n ≤ length out → sets out 0 vs ≡ vs ++ drop n out
-front out vs n e h =
-    let z : 0 + length vs ≡ n = omega arith in
-    sets-eq vs out 0 (omega arith) ∙ ap (λ (y : ℕ). vs ++ drop y out) z
-
 front-more : (vs ws l : List ℕ) (n : ℕ) → length vs ≡ n → sets (sets l 0 vs) n ws ≡ sets l 0 (vs ++ ws)
 front-more vs ws l n h =
     let z : n ≡ 0 + n = omega arith in
@@ -53,7 +49,7 @@ module _ (bytes out : List ℕ) (w : ℕ) where
   unfolding encodeBlock
   encoded-whole e h =
       let g : groupsFor (length bytes) ≡ w = omega arith in
-      front out (encode w bytes) (5 * w) (length-encode w bytes) h
+      sets-front (encode w bytes) out (5 * w) (length-encode w bytes) h
       ∙ ap (λ (y : List ℕ). y ++ drop (5 * w) out)
       (sym (encode-front w bytes (replicate 3 0) (omega arith)) ∙ ap (λ (y : ℕ). encode y (bytes ++ replicate 3 0)) (sym g))
 
@@ -68,7 +64,7 @@ module _ (bytes out : List ℕ) (w : ℕ) where
       = length-append (encode w bytes) more ∙ ap₂ (λ (y z : ℕ). y + z) (length-encode w bytes)
       (length-group (take 4 (drop (4 * w) (bytes ++ replicate 3 0)))) in
       front-more (encode w bytes) more out (5 * w) (length-encode w bytes)
-      ∙ front out (encode w bytes ++ more) (5 * w + 5) k h
+      ∙ sets-front (encode w bytes ++ more) out (5 * w + 5) k h
       ∙ ap (λ (y : List ℕ). y ++ drop (5 * w + 5) out)
       (ap (λ (y : List ℕ). y ++ more) (sym (encode-front w bytes (replicate 3 0) (omega arith)))
       ∙ sym (encode-more w (bytes ++ replicate 3 0)) ∙ ap (λ (y : ℕ). encode y (bytes ++ replicate 3 0)) (sym g))
@@ -149,6 +145,13 @@ prefix x m n l a = go (decodeAt x 0 n) refl a
 length-bytes : (x : ℕ → ℕ) (n : ℕ) (b : List ℕ) → decodeAt x 0 n ≡ Bytes b → length b ≡ n
 length-bytes x n b e = ap length (decode-bytes x 0 n b e .1) ∙ length-tab n _
 
+length-readable : (x : ℕ → ℕ) (n : ℕ) → isReadable (decodeAt x 0 n) ≡ true → length (bytesIn (decodeAt x 0 n)) ≡ n
+length-readable x n a = go (decodeAt x 0 n) refl a
+  where
+    go : (d : Decoded) → decodeAt x 0 n ≡ d → isReadable d ≡ true → length (bytesIn (decodeAt x 0 n)) ≡ n
+    go (Bytes b) e a = ap (λ (d : Decoded). length (bytesIn d)) e ∙ length-bytes x n b e
+    go (IllegalAt k) e a = absurd (let z : _≡_ {A = ℕ} 0 1 = cc in omega arith)
+
 module _ (code out₀ out : List ℕ) (i n : ℕ) (l : i < n) (room : 5 * i + 5 ≤ length code) (bytes : (k : ℕ) → getD code k 0 < 256) where
   pub bytes-next : isReadable (decodeAt (bitIn code) 0 (4 * n)) ≡ true → out ≡ sets out₀ 0 (bytesIn (decodeAt (bitIn code) 0 (4 * i)))
       → sets out (4 * i) (answer4 (decodeGroup (take 5 (drop (5 * i) code))) .bytes) ≡ sets out₀ 0
@@ -171,46 +174,37 @@ module _ (code out₀ out : List ℕ) (i n : ℕ) (l : i < n) (room : 5 * i + 5 
 
 -- ---- the ways out of the two functions
 module _ (bytes out : List ℕ) where
-  pub encode-refused : length out < 5 * groupsFor (length bytes) → (Refused noRoom ≡ encoded bytes out) × (out ≡ encodedOut bytes out)
-  unfolding encoded encodedOut
-  encode-refused h = let e = leb-no (5 * groupsFor (length bytes)) (length out) h in (rw e, rw e)
+  abbrev Encodes : Coded → List ℕ → Type 0
+  Encodes r last = (r ≡ encoded bytes out) × (last ≡ encodedOut bytes out) × (codedNumber r ≡ encodeRefusal bytes out)
 
-  pub encode-done : (last : List ℕ) (n : ℕ) → n ≡ 5 * groupsFor (length bytes) → n ≤ length out → last ≡ encodeBlock bytes ++ drop n out
-      → (Written n ≡ encoded bytes out) × (last ≡ encodedOut bytes out)
+  pub encode-refused : length out < codeLength bytes → Encodes (Refused noRoom) out
   unfolding encoded encodedOut
-  encode-done last n f h g = let e = leb-yes (5 * groupsFor (length bytes)) (length out) (omega arith) in (rw (e, ← f), rw (e, ← f) g)
+  encode-refused h = let e = ltb-yes (length out) (codeLength bytes) h in (rw e, rw e, rw e)
+
+  pub encode-done : (last : List ℕ) (n : ℕ) → n ≡ codeLength bytes → n ≤ length out → last ≡ encodeBlock bytes ++ drop n out
+      → Encodes (Written n) last
+  unfolding encoded encodedOut
+  encode-done last n f h g = let e = ltb-no (length out) (codeLength bytes) (omega arith) in (rw (e, ← f), rw (e, ← f) g, rw e)
 
 module _ (code out : List ℕ) where
-  pub decode-refused : length out < 4 * groupsIn code → (Refused noRoom ≡ decoded code out) × (out ≡ decodedOut code out)
+  abbrev Decodes : Coded → List ℕ → Type 0
+  Decodes r last = (r ≡ decoded code out) × (last ≡ decodedOut code out) × (codedNumber r ≡ decodeRefusal code out)
+
+  abbrev there : Decoded
+  there = decodeAt (bitIn code) 0 (bytesLength code)
+
+  pub decode-refused : length out < bytesLength code → Decodes (Refused noRoom) out
   unfolding decoded decodedOut
-  decode-refused h = let e = leb-no (4 * groupsIn code) (length out) h in (rw e, rw e)
+  decode-refused h = let e = ltb-yes (length out) (bytesLength code) h in (rw e, rw e, rw e)
 
-  wrong : (d : Decoded) → decodeBlock code ≡ d → 4 * groupsIn code ≤ length out → isReadable d ≡ false
-      → (Refused illegalSymbol ≡ decoded code out) × (out ≡ decodedOut code out)
-  unfolding decoded decodedOut
-  wrong (Bytes b) g h f = absurd (let z : _≡_ {A = ℕ} 0 1 = cc in omega arith)
-  wrong (IllegalAt k) g h f = let e = leb-yes (4 * groupsIn code) (length out) h in (rw (e, g), rw (e, g))
+  module _ (h : bytesLength code ≤ length out) where
+    pub decode-wrong : isReadable there ≡ false → Decodes (Refused illegalSymbol) out
+    unfolding decoded decodedOut decodeBlock
+    decode-wrong f = let e = ltb-no (length out) (bytesLength code) h in (rw (e, f), rw (e, f), rw (e, f))
 
-  pub decode-wrong : 4 * groupsIn code ≤ length out → isReadable (decodeAt (bitIn code) 0 (4 * groupsIn code)) ≡ false
-      → (Refused illegalSymbol ≡ decoded code out) × (out ≡ decodedOut code out)
-  unfolding decodeBlock
-  decode-wrong h f = wrong (decodeBlock code) refl h f
-
-  right : (last : List ℕ) (d : Decoded) → decodeBlock code ≡ d → (b : List ℕ) → d ≡ Bytes b → length b ≡ 4 * groupsIn code
-      → 4 * groupsIn code ≤ length out → last ≡ b ++ drop (4 * groupsIn code) out
-      → (Written (4 * groupsIn code) ≡ decoded code out) × (last ≡ decodedOut code out)
-  unfolding decoded decodedOut
-  right last d g b q m h l = let e = leb-yes (4 * groupsIn code) (length out) h in (rw (e, g, q, m), rw (e, g, q, m) l)
-
-  pub decode-done : (last : List ℕ) → 4 * groupsIn code ≤ length out → isReadable (decodeAt (bitIn code) 0 (4 * groupsIn code)) ≡ true
-      → last ≡ sets out 0 (bytesIn (decodeAt (bitIn code) 0 (4 * groupsIn code)))
-      → (Written (4 * groupsIn code) ≡ decoded code out) × (last ≡ decodedOut code out)
-  unfolding decodeBlock
-  decode-done last h f l = go (decodeAt (bitIn code) 0 (4 * groupsIn code)) refl f
-    where
-      go : (d : Decoded) → decodeAt (bitIn code) 0 (4 * groupsIn code) ≡ d → isReadable d ≡ true
-          → (Written (4 * groupsIn code) ≡ decoded code out) × (last ≡ decodedOut code out)
-      go (IllegalAt k) g f = absurd (let z : _≡_ {A = ℕ} 0 1 = cc in omega arith)
-      go (Bytes b) g f =
-          let m = length-bytes (bitIn code) (4 * groupsIn code) b g in
-          right last (decodeBlock code) refl b g m h (l ∙ rw g (front out b (4 * groupsIn code) m h))
+    pub decode-done : (last : List ℕ) → isReadable there ≡ true → last ≡ sets out 0 (bytesIn there) → Decodes (Written (bytesLength code)) last
+    unfolding decoded decodedOut decodeBlock
+    decode-done last f l =
+        let e = ltb-no (length out) (bytesLength code) h in
+        let m = length-readable (bitIn code) (bytesLength code) f in
+        (rw (e, f), rw (e, f) (l ∙ sets-front (bytesIn there) out (bytesLength code) m h), rw (e, f))

@@ -11,6 +11,10 @@ use Rattle.gcr.specs.Places.{decodeAt}
 abbrev pub groupsFor : ℕ → ℕ
 groupsFor n = (n + 3) / 4
 
+-- the bytes of their code
+abbrev pub codeLength : List ℕ → ℕ
+codeLength bytes = 5 * groupsFor (length bytes)
+
 -- the code of bytes; a last group of fewer than four bytes is filled up with zeros
 unfoldable pub encodeBlock : List ℕ → List ℕ
 encodeBlock bytes = encode (groupsFor (length bytes)) (bytes ++ replicate 3 0)
@@ -19,6 +23,10 @@ encodeBlock bytes = encode (groupsFor (length bytes)) (bytes ++ replicate 3 0)
 abbrev pub groupsIn : List ℕ → ℕ
 groupsIn code = length code / 5
 
+-- the bytes that they stand for
+abbrev pub bytesLength : List ℕ → ℕ
+bytesLength code = 4 * groupsIn code
+
 -- what the symbols of a code stand for
 unfoldable pub decodeBlock : List ℕ → Decoded
-decodeBlock code = decodeAt (bitIn code) 0 (4 * groupsIn code)
+decodeBlock code = decodeAt (bitIn code) 0 (bytesLength code)

@@ -1,12 +1,12 @@
-// Blocks: several groups of the nibble code, one after the other. Decoding them is the crate decoding's.
-// Blocks decoded: what a code of whole groups stands for.
+// Blocks: several groups of the nibble code, one after the other, encoded and decoded.
 ghost use mathlib.Core.Path.{_≡_};
 ghost use mathlib.Core.List.{_++_};
 ghost use Prim.Native.Nat.{_+_, _*_, _≤_, _<_};
-ghost use lib.ListN.{length, take, drop, replicate, getD};
+ghost use lib.ListN.{length, take, drop, replicate};
 ghost use lib.Seq.{sets};
 ghost use Rattle.gcr.specs.Groups.{encodeGroup, encode, decodeGroup};
-ghost use Rattle.gcr_blocks.specs.Answers.{encoded, encodedOut, decoded, decodedOut, isReadable, bytesIn};
+ghost use Rattle.gcr_blocks.specs.Answers.{codedNumber, encodeRefusal, encoded, encodedOut};
+ghost use Rattle.gcr_blocks.specs.Answers.{decodeRefusal, decoded, decodedOut, isReadable, bytesIn};
 ghost use mathlib.Core.Bool.{true};
 ghost use Rattle.base.specs.Bits.{bitIn};
 ghost use Rattle.gcr.specs.Places.{decodeAt};
@@ -24,12 +24,8 @@ fn put_group(out: &mut [u8], at: usize, g: [u8; 4])
     requires { ⌜ at + 5 ≤ length (now out) ⌝ }
     ensures { λ r. ⌜ now (out .exit) ≡ sets (now (out .entry)) at (encodeGroup g) ⌝ }
 {
-    let e = gcr::encode_group(&g);
-    out[at] = e[0];
-    out[at + 1] = e[1];
-    out[at + 2] = e[2];
-    out[at + 3] = e[3];
-    out[at + 4] = e[4];
+    let code = gcr::encode_group(&g);
+    base::store(out, at, &code);
 }
 
 // The code of the first `n` groups of `bytes`, stored from `at` on.
@@ -58,19 +54,13 @@ pub fn encode_block(out: &mut [u8], at: usize, block: &[u8; 260])
     encode_groups(out, at, block, 65);
 }
 
-fn byte_or_zero(bytes: &[u8], i: usize) -> u8
-    ensures { λ r. ⌜ r ≡ getD (now (bytes .entry)) i 0 ⌝ }
-{
-    if i < bytes.len() {
-        return bytes[i];
-    }
-    0
-}
-
 // The code of a block of any length; a last group of fewer than four bytes is filled up with zeros.
 pub fn encode_gcr_block(bytes: &[u8], out: &mut [u8]) -> Coded
-    ensures { λ r. ⌜ (r ≡ encoded (now (bytes .entry)) (now (out .entry))) × (now (out .exit) ≡ encodedOut (now (bytes .entry))
-        (now (out .entry))) ⌝ }
+    ensures { λ r. ⌜
+        (r ≡ encoded (now (bytes .entry)) (now (out .entry)))
+        × (now (out .exit) ≡ encodedOut (now (bytes .entry)) (now (out .entry)))
+        × (codedNumber r ≡ encodeRefusal (now (bytes .entry)) (now (out .entry)))
+        ⌝ }
 {
     let whole = bytes.len() / 4;
     if bytes.len() % 4 == 0 {
@@ -97,9 +87,9 @@ fn put_last(out: &mut [u8], bytes: &[u8], whole: usize)
     let k = 4 * whole;
     let g = [
         bytes[k],
-        byte_or_zero(bytes, k + 1),
-        byte_or_zero(bytes, k + 2),
-        byte_or_zero(bytes, k + 3),
+        base::byte_or(bytes, k + 1, 0),
+        base::byte_or(bytes, k + 2, 0),
+        base::byte_or(bytes, k + 3, 0),
     ];
     put_group(out, 5 * whole, g);
 }
@@ -117,17 +107,6 @@ fn decode_at(code: &[u8], at: usize) -> Decoded4
         code[at + 4],
     ];
     gcr::decode_group(&g)
-}
-
-// Four bytes, stored from `at` on.
-fn put_four(out: &mut [u8], at: usize, g: [u8; 4])
-    requires { ⌜ at + 4 ≤ length (now out) ⌝ }
-    ensures { λ r. ⌜ now (out .exit) ≡ sets (now (out .entry)) at g ⌝ }
-{
-    out[at] = g[0];
-    out[at + 1] = g[1];
-    out[at + 2] = g[2];
-    out[at + 3] = g[3];
 }
 
 // Are all symbols of the first `n` groups in the table?
@@ -156,15 +135,18 @@ fn decode_groups(code: &[u8], out: &mut [u8], n: usize)
     while i < n {
         let g = decode_at(code, 5 * i);
         let bytes = g.bytes;
-        put_four(out, 4 * i, bytes);
+        base::store(out, 4 * i, &bytes);
         i += 1;
     }
 }
 
 // What a code of whole groups stands for. A symbol outside the table refuses, and then nothing is written.
 pub fn decode_gcr_block(code: &[u8], out: &mut [u8]) -> Coded
-    ensures { λ r. ⌜ (r ≡ decoded (now (code .entry)) (now (out .entry))) × (now (out .exit) ≡ decodedOut (now (code .entry))
-        (now (out .entry))) ⌝ }
+    ensures { λ r. ⌜
+        (r ≡ decoded (now (code .entry)) (now (out .entry)))
+        × (now (out .exit) ≡ decodedOut (now (code .entry)) (now (out .entry)))
+        × (codedNumber r ≡ decodeRefusal (now (code .entry)) (now (out .entry)))
+        ⌝ }
 {
     let n = code.len() / 5;
     if out.len() / 4 < n {

@@ -19,6 +19,7 @@ use Rattle.base.specs.Bits.{bitIn, gather}
 use Rattle.base.proofs.Gathered.{Bits, gather-lt, gather-split, gather-byte}
 use Rattle.ring.specs.Bit.{bits, putBit, bitAt, setBit}
 use Rattle.ring.specs.Run.{writeBits, writeBytes}
+use Rattle.ring.proofs.PutBit.{put-is}
 use Rattle.ring.proofs.RingLaws.{Bytes, bit-lt, length-writeBits}
 
 -- ---- bits gathered: what stands in the middle of a run
@@ -152,7 +153,8 @@ put-filled v a m k g x =
     = ap (λ (n : ℕ). n + x) (add-mul (v / 2 ^ (8 - a) * 2 ^ m) g 2 ∙ ap (λ (n : ℕ). n + g * 2)
     (mul-assoc (v / 2 ^ (8 - a)) (2 ^ m) 2 ∙ ap (λ (n : ℕ). v / 2 ^ (8 - a) * n) (sym (pow-add 2 m 1))))
     ∙ add-assoc (v / 2 ^ (8 - a) * 2 ^ (m + 1)) (g * 2) x in
-    ap₂ (λ (y z : ℕ). (y * 2 + x) * 2 ^ k + z) up down ∙ ap (λ (n : ℕ). n * 2 ^ k + v % 2 ^ k) w
+    put-is (filled v a m (k + 1) g) k x
+    ∙ ap₂ (λ (y z : ℕ). (y * 2 + x) * 2 ^ k + z) up down ∙ ap (λ (n : ℕ). n * 2 ^ k + v % 2 ^ k) w
 
 -- a bit of a byte that was stored
 set-put : (r : List ℕ) (i q x v : ℕ) → i < length r → q < 8 → setBit (set r i v) (8 * i + q) x ≡ set r i (putBit v (7 - q) x)

@@ -23,7 +23,7 @@ use Rattle.ring.proofs.WholeBytes.{byte-at}
 use Rattle.scan_sync.specs.declared.Chunk.{Chunk}
 use Rattle.scan_sync.specs.declared.SyncEnd.the-variants.{At}
 use Rattle.scan_sync.specs.Sync.{run, syncFrom}
-use Rattle.scan_sync.specs.Helpers.{chunkAt}
+use Rattle.scan_sync.specs.Inside.{chunkAt}
 use Rattle.scan_sync.proofs.SyncLaws.{at-hit, at-reset, at-one, passed}
 
 -- the ones in a row after k places from p on, c before them

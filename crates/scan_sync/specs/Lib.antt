@@ -1,2 +1,2 @@
 pub mod Sync
-pub mod Helpers
+pub mod Inside

@@ -3,7 +3,7 @@ ghost use mathlib.Core.Path.{_≡_};
 ghost use Prim.Native.Nat.{_*_, _<_};
 ghost use lib.ListN.{length};
 ghost use Rattle.ring.specs.Bit.{IsRing, bitAt};
-ghost use Rattle.scan_sync.specs.Helpers.{oneBit, chunkAt};
+ghost use Rattle.scan_sync.specs.Inside.{oneBit, chunkAt};
 use crate::Chunk;
 
 // One bit of a ring, as a chunk.

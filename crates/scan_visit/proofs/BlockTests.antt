@@ -19,7 +19,7 @@ use Rattle.scan_visit.specs.Visit.{DataFound, BadData, AnotherHeader, Go
 use Rattle.scan_visit.specs.Visit.{HeaderFound, BadHeader, TrueHeader, NoHeader, FalseHeader}
 use Rattle.scan_visit.specs.Visit.{at, payloadIn, byData, headerMark, dataAt, dataFor, trueSum, byHeader, visit}
 use Rattle.scan_visit.specs.Answers.{headerAnswer, dataAnswer}
-use Rattle.scan_visit.specs.Helpers.{headerBy, withoutPayload, blockBy}
+use Rattle.scan_visit.specs.Inside.{headerBy, withoutPayload, blockBy}
 
 -- ---- the header at h
 header-any : (track : ℕ) (f g : DataFound) (b : List ℕ) → headerAnswer (byHeader track f (Bytes b)) ≡ headerAnswer

@@ -5,24 +5,23 @@ use mathlib.Core.List.{List, _++_, append-nil}
 use Prim.Native.Nat.{ℕ, _*_, _/_, _≤_}
 use native.Mathlib.Nat.{zero-add}
 use native.Mathlib.Omega.{arith}
-use lib.Dec.{leb}
-use lib.ListN.{length, drop, drop-of-length-le}
+use lib.ListN.{length, drop}
+use lib.Seq.{drop-length}
 use Rattle.base.specs.Bits.{bitIn}
 use Rattle.base.specs.Choice.{pick}
-use Rattle.base.specs.Refusals.{noRoom}
-use Rattle.base.proofs.Tests.{leb-yes}
+use Rattle.base.specs.Refusals.{illegalSymbol}
+use Rattle.base.proofs.Tests.{ltb-no}
 use Rattle.base.proofs.Lists.{length-tab}
 use Rattle.gcr.specs.Symbols.{Decoded, Bytes, IllegalAt}
 use Rattle.gcr.specs.Places.{decodeAt}
 use Rattle.gcr.proofs.AtPlaces.{decode-same}
-use Rattle.gcr.proofs.DecodeLaws.{byteAt, decode-bytes}
 use Rattle.gcr_blocks.specs.declared.Coded.the-variants.{Written, Refused}
-use Rattle.gcr_blocks.specs.Blocks.{groupsIn, decodeBlock}
-use Rattle.gcr_blocks.specs.Answers.{unlessIllegal, isReadable, decoded, decodedOut}
+use Rattle.gcr_blocks.specs.Blocks.{groupsIn, bytesLength, decodeBlock}
+use Rattle.gcr_blocks.specs.Answers.{isReadable, bytesIn, decoded, decodedOut}
 use Rattle.ring.specs.Bit.{bitAt}
 use Rattle.ring.specs.Run.{readBytes}
 use Rattle.ring.proofs.RingLaws.{bit-read}
-use Rattle.scan_visit.specs.Helpers.{CopyDecoded}
+use Rattle.scan_visit.specs.Inside.{CopyDecoded}
 
 -- decoding what was copied is decoding what stands there
 copy-decode : (ring : List ℕ) (place n k : ℕ) → 10 * k ≤ 8 * n → decodeAt (bitIn (readBytes ring place n)) 0 k ≡ decodeAt (bitAt ring)
@@ -44,55 +43,51 @@ module _ (ring : List ℕ) (place : ℕ) (code out copy : List ℕ) (c : copy �
       ap (decodeAt (bitIn copy) 0) n ∙ ap (λ (l : List ℕ). decodeAt (bitIn l) 0 (length out)) c
       ∙ copy-decode ring place (length code) (length out) (omega arith)
 
-  enough : leb (4 * groupsIn copy) (length out) ≡ true
-  enough = leb-yes (4 * groupsIn copy) (length out) (omega (arith, ap (λ (y : ℕ). 4 * (y / 5)) same-long))
+  abbrev there : Decoded
+  there = decodeAt (bitAt ring) place (length out)
+
+  long : bytesLength copy ≡ length out
+  long = ap (λ (y : ℕ). 4 * (y / 5)) same-long ∙ fits
 
   -- what is decoded fills what was lent
-  whole : (b : List ℕ) → decodeAt (bitAt ring) place (length out) ≡ Bytes b → b ++ drop (length b) out ≡ b
-  whole b e =
-      let l : length b ≡ length out = ap length (decode-bytes (bitAt ring) place (length out) b e .1) ∙ length-tab (length out)
-      (byteAt (bitAt ring) place) in
-      ap (λ (r : List ℕ). b ++ r) (drop-of-length-le out {i = length b} (omega arith)) ∙ append-nil b
+  whole : isReadable there ≡ true → bytesIn there ++ drop (bytesLength copy) out ≡ bytesIn there
+  whole r =
+      ap (λ (n : ℕ). bytesIn there ++ drop n out) long ∙ ap (λ (l : List ℕ). bytesIn there ++ l) (drop-length out) ∙ append-nil (bytesIn there)
 
-  out-is : decodedOut copy out ≡ unlessIllegal (λ n. out) (λ b. b) (decodeAt (bitAt ring) place (length out))
-  unfolding decodedOut
-  out-is =
-      ap₂ (λ (t : Bool) (o : Decoded). pick t (unlessIllegal (λ n. out) (λ b. b ++ drop (length b) out) o) out) enough block-is
-      ∙ by (decodeAt (bitAt ring) place (length out)) refl
+  by-room : (b : Bool) → isReadable there ≡ b
+      → (decoded copy out ≡ pick b (Written (bytesLength copy)) (Refused illegalSymbol)) × (decodedOut copy out ≡ pick b (bytesIn there) out)
+  unfolding decoded decodedOut
+  by-room true e =
+      let l = ltb-no (length out) (bytesLength copy) (omega (arith, long)) in
+      (rw (l, block-is, e), rw (l, block-is, e) (whole e))
+  by-room false e =
+      let l = ltb-no (length out) (bytesLength copy) (omega (arith, long)) in
+      (rw (l, block-is, e), rw (l, block-is, e))
+
+  pub copy-written : (n : ℕ) (after : List ℕ) → after ≡ decodedOut copy out → decoded copy out ≡ Written n
+      → CopyDecoded ring place code out copy after true
+  copy-written n after a e = by (isReadable there) refl
     where
-      by : (o : Decoded) → decodeAt (bitAt ring) place (length out) ≡ o
-          → unlessIllegal (λ n. out) (λ b. b ++ drop (length b) out) o ≡ unlessIllegal (λ n. out) (λ b. b) o
-      by (Bytes b) e = whole b e
-      by (IllegalAt k) e = refl
+      by : (b : Bool) → isReadable there ≡ b → CopyDecoded ring place code out copy after true
+      by true f = record { copied = c; told = sym f; laid = a ∙ by-room true f .1 }
+      by false f = absurd (let g = by-room false f .0 in let z : _≡_ {A = ℕ} 0 1 = cc in omega arith)
 
-  answer-is : decoded copy out ≡ unlessIllegal Refused (λ b. Written (length b)) (decodeAt (bitAt ring) place (length out))
-  unfolding decoded
-  answer-is = ap₂ (λ (t : Bool) (o : Decoded). pick t (unlessIllegal Refused (λ b. Written (length b)) o) (Refused noRoom)) enough block-is
-
-  readable-is : (o : Decoded) (n : ℕ) → unlessIllegal Refused (λ b. Written (length b)) o ≡ Written n → true ≡ isReadable o
-  readable-is (Bytes b) n e = refl
-  readable-is (IllegalAt k) n e = absurd (let z : _≡_ {A = ℕ} 0 1 = cc in omega arith)
-
-  illegal-is : (o : Decoded) (n : ℕ) → unlessIllegal Refused (λ b. Written (length b)) o ≡ Refused n → false ≡ isReadable o
-  illegal-is (Bytes b) n e = absurd (let z : _≡_ {A = ℕ} 0 1 = cc in omega arith)
-  illegal-is (IllegalAt k) n e = refl
-
-  pub copy-written : (n : ℕ) (after : List ℕ) → after ≡ decodedOut copy out → decoded copy out ≡ Written n → CopyDecoded ring place code
-      out copy after true
-  copy-written n after a e =
-      record { copied = c; told = readable-is (decodeAt (bitAt ring) place (length out)) n (sym answer-is ∙ e); laid = a ∙ out-is }
-
-  pub copy-refused : (n : ℕ) (after : List ℕ) → after ≡ decodedOut copy out → decoded copy out ≡ Refused n → CopyDecoded ring place code
-      out copy after false
-  copy-refused n after a e =
-      record { copied = c; told = illegal-is (decodeAt (bitAt ring) place (length out)) n (sym answer-is ∙ e); laid = a ∙ out-is }
+  pub copy-refused : (n : ℕ) (after : List ℕ) → after ≡ decodedOut copy out → decoded copy out ≡ Refused n
+      → CopyDecoded ring place code out copy after false
+  copy-refused n after a e = by (isReadable there) refl
+    where
+      by : (b : Bool) → isReadable there ≡ b → CopyDecoded ring place code out copy after false
+      by false f = record { copied = c; told = sym f; laid = a ∙ by-room false f .1 }
+      by true f = absurd (let g = by-room true f .0 in let z : _≡_ {A = ℕ} 0 1 = cc in omega arith)
 
 -- ---- for its callers: the bytes that stand there, or an illegal symbol
 module _ {ring : List ℕ} {place : ℕ} {code out copy after : List ℕ} {ok : Bool} (d : CopyDecoded ring place code out copy after ok) where
   pub read-bytes : ok ≡ true → decodeAt (bitAt ring) place (length out) ≡ Bytes after
-  read-bytes t = by (decodeAt (bitAt ring) place (length out)) (sym t ∙ d .told) (d .laid)
+  read-bytes t =
+      by (decodeAt (bitAt ring) place (length out)) (sym t ∙ d .told)
+      (d .laid ∙ ap (λ (b : Bool). pick b (bytesIn (decodeAt (bitAt ring) place (length out))) out) t)
     where
-      by : (o : Decoded) → true ≡ isReadable o → after ≡ unlessIllegal (λ n. out) (λ b. b) o → o ≡ Bytes after
+      by : (o : Decoded) → true ≡ isReadable o → after ≡ bytesIn o → o ≡ Bytes after
       by (Bytes b) r e = ap Bytes (sym e)
       by (IllegalAt k) r e = absurd (let z : _≡_ {A = ℕ} 0 1 = cc in omega arith)
 

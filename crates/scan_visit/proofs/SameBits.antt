@@ -1,6 +1,5 @@
 -- Searches, blocks and headers by the bits that they look at: where those are the same, so is what is found.
 --     sync-same, sync-at    the search for a sync end, over all its places, or up to the end that it finds
---     decode-same           a block that stands at a place of one ring and at a place of another
 --     header-same           a header, whatever its data search comes to
 use mathlib.Core.Path.{_≡_, refl, ap, _∙_, subst}
 use mathlib.Core.Bool.{Bool, true, false, _&&_}
@@ -9,10 +8,8 @@ use Prim.Native.Nat.{ℕ, zero, suc, _+_, _-_, _*_, _≤_, _<_}
 use native.Mathlib.Omega.{arith}
 use lib.Dec.{eqb, ltb, leb}
 use Rattle.base.specs.Choice.{pick}
-use Rattle.base.proofs.Lists.{tab-same}
 use Rattle.geometry.specs.Zones.{sectorsOf}
-use Rattle.gcr.specs.Symbols.{Decoded, Bytes, IllegalAt, fromSymbols}
-use Rattle.gcr.specs.Places.{symbolAt, decodeAt}
+use Rattle.gcr.specs.Symbols.{Decoded, Bytes, IllegalAt}
 use Rattle.scan_sync.specs.declared.SyncEnd.{SyncEnd}
 use Rattle.scan_sync.specs.declared.SyncEnd.the-variants.{At}
 use Rattle.scan_sync.specs.Sync.{run, syncFrom}
@@ -54,27 +51,6 @@ module _ (x y : ℕ → ℕ) where
           → pick b (At p) (syncFrom y n (p + 1) (run (x p) c)) ≡ At h
       by true e f = e
       by false e f = f e
-
-  -- ---- a block
-  pub decode-same : (p q n : ℕ) → ((i : ℕ) → i < 10 * n → x (p + i) ≡ y (q + i)) → decodeAt x p n ≡ decodeAt y q n
-  unfolding decodeAt
-  decode-same p q n a =
-      ap fromSymbols (tab-same (2 * n) (λ k. symbolAt x (p + 5 * k)) (λ k. symbolAt y (q + 5 * k)) (λ k l. one k l))
-    where
-      bit : (k j : ℕ) → k < 2 * n → j < 5 → x (p + 5 * k + j) ≡ y (q + 5 * k + j)
-      bit k j l m =
-          let u : p + 5 * k + j ≡ p + (5 * k + j) = omega arith in
-          let v : q + (5 * k + j) ≡ q + 5 * k + j = omega arith in
-          ap x u ∙ a (5 * k + j) (omega arith) ∙ ap y v
-
-      sum : {a b c d e a′ b′ c′ d′ e′ : ℕ} → a ≡ a′ → b ≡ b′ → c ≡ c′ → d ≡ d′ → e ≡ e′
-          → a * 16 + b * 8 + c * 4 + d * 2 + e ≡ a′ * 16 + b′ * 8 + c′ * 4 + d′ * 2 + e′
-      sum p0 p1 p2 p3 p4 = λ i. p0 i * 16 + p1 i * 8 + p2 i * 4 + p3 i * 2 + p4 i
-
-      one : (k : ℕ) → k < 2 * n → symbolAt x (p + 5 * k) ≡ symbolAt y (q + 5 * k)
-      one k l =
-          sum (a (5 * k) (omega arith)) (bit k 1 l (omega arith)) (bit k 2 l (omega arith)) (bit k 3 l (omega arith))
-          (bit k 4 l (omega arith))
 
 -- ---- a header, with another data search in it
 abbrev pub withData : DataFound → HeaderFound → HeaderFound

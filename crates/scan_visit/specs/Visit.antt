@@ -4,10 +4,11 @@ use mathlib.Core.Bool.{Bool, false, _&&_}
 use mathlib.Core.List.{List}
 use lib.Dec.{eqb, ltb}
 use lib.ListN.{getD, take, drop}
-use lib.Bits.{bitXor}
 use Rattle.base.specs.Choice.{pick}
 use Rattle.base.specs.Lists.{xorOf}
 use Rattle.geometry.specs.Zones.{sectorsOf}
+use Rattle.geometry.specs.Blocks.{headerMarker, dataMarker, markerByte, sumByte, sectorByte, trackByte, id2Byte, id1Byte}
+use Rattle.geometry.specs.Blocks.{headerSum, headerBits, dataSearch, blockBits}
 use Rattle.gcr.specs.Symbols.{Decoded, Bytes, IllegalAt}
 use Rattle.gcr.specs.Places.{decodeAt}
 use Rattle.scan_sync.specs.Sync.{syncEnd}
@@ -55,14 +56,14 @@ payloadIn bytes = take 256 (drop 1 bytes)
 abbrev pub byData : ℕ → Decoded → DataFound
 byData d (IllegalAt k) = BadData (IllegalData d k)
 byData d (Bytes b) =
-    pick (eqb (at b 0) 0x07)
+    pick (eqb (markerByte b) dataMarker)
     (pick (eqb (xorOf (payloadIn b)) (at b 257)) (GoodData d (payloadIn b)) (BadData (FalseData d)))
     (BadData (OtherMarker d))
 
 -- a first group that decodes, and begins with a header's marker
 abbrev pub headerMark : Decoded → Bool
 headerMark (IllegalAt k) = false
-headerMark (Bytes b) = eqb (at b 0) 0x08
+headerMark (Bytes b) = eqb (markerByte b) headerMarker
 
 -- what stands at data place d; marker 08 is looked for first, in the first five bytes alone
 unfoldable pub dataAt : (ℕ → ℕ) → ℕ → DataFound
@@ -75,20 +76,20 @@ bySync x (At d) = dataAt x d
 
 -- the data search of a header at place h starts 80 bits after it and covers 768 bits
 abbrev pub dataFor : (ℕ → ℕ) → ℕ → DataFound
-dataFor x h = bySync x (syncEnd x (h + 80) 768)
+dataFor x h = bySync x (syncEnd x (h + headerBits) dataSearch)
 
 -- the checksum of a header's bytes is true
 abbrev pub trueSum : List ℕ → Bool
-trueSum b = eqb (at b 1) (bitXor (bitXor (bitXor (at b 2) (at b 3)) (at b 4)) (at b 5))
+trueSum b = eqb (sumByte b) (headerSum (sectorByte b) (trackByte b) (id2Byte b) (id1Byte b))
 
 -- a header of this track by its eight bytes: 08, checksum, sector, track, id2, id1, 0F, 0F; the ids are not compared
 abbrev pub byHeader : ℕ → DataFound → Decoded → HeaderFound
 byHeader track found (IllegalAt k) = BadHeader (IllegalHeader k)
 byHeader track found (Bytes b) =
-    pick (eqb (at b 0) 0x08 && eqb (at b 3) track)
+    pick (eqb (markerByte b) headerMarker && eqb (trackByte b) track)
     (pick (trueSum b)
-    (pick (ltb (at b 2) (sectorsOf track)) (TrueHeader (at b 2) (at b 5) (at b 4) found) (BadHeader NoHeader))
-    (BadHeader (FalseHeader (at b 2))))
+    (pick (ltb (sectorByte b) (sectorsOf track)) (TrueHeader (sectorByte b) (id1Byte b) (id2Byte b) found) (BadHeader NoHeader))
+    (BadHeader (FalseHeader (sectorByte b))))
     (BadHeader NoHeader)
 
 -- the visit to the sync end at place h
@@ -99,7 +100,7 @@ visit x track h = record { place = h; found = byHeader track (dataFor x h) (deco
 abbrev pub afterData : ℕ → DataFound → ℕ
 afterData h (BadData fault) = h + 1
 afterData h (AnotherHeader d) = d + 1
-afterData h (GoodData d payload) = d + 2600
+afterData h (GoodData d payload) = d + blockBits
 
 -- and 1 after the place of a bad header
 abbrev pub afterHeader : ℕ → HeaderFound → ℕ

@@ -7,7 +7,7 @@ ghost use Rattle.gcr_blocks.specs.Blocks.{groupsIn};
 ghost use Rattle.ring.specs.Bit.{IsRing, bitAt};
 ghost use Rattle.scan_visit.specs.Visit.{visit, dataAt, byData};
 ghost use Rattle.scan_visit.specs.Answers.{headerAnswer, dataAnswer};
-ghost use Rattle.scan_visit.specs.Helpers.{CopyDecoded, headerBy, withoutPayload, blockBy};
+ghost use Rattle.scan_visit.specs.Inside.{CopyDecoded, headerBy, withoutPayload, blockBy};
 use gcr_blocks::Coded;
 
 // A true header of the track, by its sector, or none.

@@ -30,7 +30,8 @@ use Rattle.scan_visit.specs.Visit.{at, payloadIn, byData, headerMark, dataAt, b
 use Rattle.scan_visit.proofs.VisitLaws.{header→, header←, data→}
 use Rattle.scan.proofs.StepLaws.{Good, good, stepOf, visit-yes}
 use Rattle.scan.proofs.ScanLaws.{found-sync}
-use Rattle.scan_visit.proofs.SameBits.{Agree, sync-same, sync-from, sync-at, decode-same, withData, header-same}
+use Rattle.gcr.proofs.AtPlaces.{decode-same}
+use Rattle.scan_visit.proofs.SameBits.{Agree, sync-same, sync-from, sync-at, withData, header-same}
 use Rattle.sector.specs.Replacing.{dataBlock}
 use Rattle.sector.specs.ReadBack.{pastData, pastHeader, pastLook}
 

@@ -4,16 +4,17 @@ use Rattle.geometry.specs.Zones.{zoneOf, sectorsIn}
 use Rattle.geometry.specs.D64.{sectorsTo, d64Place, firstFit, tracksOf}
 use Rattle.gcr.specs.Symbols.{symbol, nibbleOf, firstIllegal, fromSymbols}
 use Rattle.gcr.specs.Groups.{encodeGroup, decodeGroup}
+use Rattle.gcr.specs.Answers.{answer4}
 use Rattle.scan_sync.specs.Sync.{syncFrom}
 use Rattle.theorem_cases.specs.Cases.{Cases}
 
 pub cases : Cases
-unfolding encodeGroup symbol decodeGroup fromSymbols firstIllegal nibbleOf d64Place tracksOf firstFit sectorsTo sectorsIn zoneOf syncFrom
+unfolding encodeGroup symbol decodeGroup answer4 fromSymbols firstIllegal nibbleOf d64Place tracksOf firstFit sectorsTo sectorsIn zoneOf syncFrom
 cases = record {
   a = refl;
   b = refl;
   c = refl;
-  d = refl;
+  d = (refl, refl);
   e = refl;
   f = refl;
   g = refl;
@@ -21,5 +22,5 @@ cases = record {
   i = refl;
   j = refl;
   k = (refl, refl);
-  l = refl;
+  l = (refl, refl);
 }

@@ -7,7 +7,8 @@ use Rattle.base.specs.Choice.{pick}
 use Rattle.base.proofs.Tests.{eqb-yes, ltb-yes}
 use Rattle.geometry.specs.Zones.{sectorsOf}
 use Rattle.gcr.specs.Symbols.{Bytes}
-use Rattle.track_build.specs.Blocks.{headerWith, headerSum}
+use Rattle.geometry.specs.Blocks.{headerSum}
+use Rattle.track_build.specs.Blocks.{headerWith}
 use Rattle.scan_sync.specs.declared.SyncEnd.the-variants.{At, Nothing}
 use Rattle.scan_sync.specs.Sync.{syncFrom, syncEnd}
 use Rattle.scan.specs.Scan.{nextSync}

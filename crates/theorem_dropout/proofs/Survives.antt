@@ -18,6 +18,8 @@ use Rattle.base.proofs.InRow.{sets-front}
 use Rattle.base.proofs.Rows.{joined-part}
 use Rattle.geometry.specs.Zones.{sectorsOf, capacityOf}
 use Rattle.ring.specs.Stretch.{ringAfter as forcedAfter}
+use Rattle.ring.proofs.RingLaws.{ring-kept}
+use Rattle.ring.proofs.RingRefusals.{no-refusal}
 use Rattle.ring.proofs.StretchLaws.{done}
 use Rattle.track_build.specs.Slots.{builtTrack}
 use Rattle.track_build.specs.Answers.{outAfter as builtAfter}
@@ -116,13 +118,8 @@ module _ (d : Dropout) (ring out statuses : List ℕ) where
         forced-is : (p q : List ℕ) → p ≡ whole → q ≡ forcedAfter p (d .place) (d .long) → q ≡ damaged d
         forced-is p q e f =
             f ∙ ap (λ (y : List ℕ). forcedAfter y (d .place) (d .long)) e
-            ∙ sym (done whole (d .place) (d .long) (damaged d) (λ z. omega (arith, long, some)) (omega (arith, long, small)) refl .1)
-          where
-            some : 0 < capacityOf (d .track)
-            some = subst (λ (n : ℕ). 0 < n) (damaged-length d ok) (never-refused d ok .ring .some)
-
-            small : capacityOf (d .track) ≤ 65535
-            small = subst (λ (n : ℕ). n ≤ 65535) (damaged-length d ok) (never-refused d ok .ring .small)
+            ∙ sym (done whole (d .place) (d .long) 0
+            (sym (no-refusal whole (ring-kept (long ∙ sym (damaged-length d ok)) (never-refused d ok .ring)))) (damaged d) refl refl .1)
 
         read-is : (Found (countOf 1 (readStatuses (damaged d) (d .track) (d .start)))
             ≡ trackRead (damaged d) (d .track) (d .start) out statuses)

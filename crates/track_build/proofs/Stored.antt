@@ -14,7 +14,7 @@ use lib.Seq.{sets}
 use Rattle.base.specs.Choice.{pick}
 use Rattle.base.specs.Lists.{joined}
 use Rattle.base.specs.Refusals.{noRoom, wrongSum}
-use Rattle.base.proofs.Tests.{eqb-yes, eqb-no, leb-yes, leb-no}
+use Rattle.base.proofs.Tests.{eqb-yes, eqb-no, ltb-yes, ltb-no}
 use Rattle.base.proofs.Lists.{length-joined}
 use Rattle.base.proofs.InRow.{sets-more, sets-front}
 use Rattle.geometry.specs.Zones.{zoneOf, gapIn, slotSize, slotStart, sectorsOf, capacityOf}
@@ -116,13 +116,13 @@ module _ (track : ℕ) (payloads codes : List ℕ) (id1 id2 : ℕ) (out : List �
     unfolding built outAfter
     no-room h =
         let e = eqb-yes (length payloads % 256) 0 s in
-        let f = leb-no (capacityOf track) (length out) (omega arith) in (rw (e, f), rw (e, f))
+        let f = ltb-yes (length out) (capacityOf track) (omega arith) in (rw (e, f), rw (e, f))
 
     pub written : capacity ≤ length out → (after : List ℕ) → after ≡ sets out 0 (builtTrack track payloads codes id1 id2)
         → (Written capacity ≡ built track payloads out) × (after ≡ outAfter track payloads codes id1 id2 out)
     unfolding built outAfter
     written h after p =
         let e = eqb-yes (length payloads % 256) 0 s in
-        let f = leb-yes (capacityOf track) (length out) (omega arith) in
+        let f = ltb-no (length out) (capacityOf track) (omega arith) in
         let t = builtTrack track payloads codes id1 id2 in
         (rw (e, f, k), rw (e, f) (p ∙ sets-front t out (capacityOf track) (length-built track payloads codes id1 id2) (omega arith)))

@@ -1,13 +1,13 @@
 // Building a track: one slot for each sector, with what an error code changes in it.
 ghost use mathlib.Core.Path.{_≡_};
 ghost use Prim.Native.Nat.{_+_, _*_, _<_, _≤_};
-ghost use lib.ListN.{length, getD, replicate};
+ghost use lib.ListN.{length};
 ghost use lib.Seq.{sets};
 ghost use lib.Dec.{eqb};
 ghost use Rattle.base.specs.Choice.{pick};
 ghost use Rattle.geometry.specs.Zones.{zoneOf, slotSize, capacityOf};
 ghost use Rattle.gcr.specs.Groups.{encode};
-ghost use Rattle.track_build.specs.Blocks.{inverted, headerBytes, dataBytes};
+ghost use Rattle.track_build.specs.Blocks.{inverted, headerBytes, dataBytes, spoils};
 ghost use Rattle.track_build.specs.Slots.{gap, block, slot, payloadOf, slotOf, builtTrack};
 ghost use Rattle.track_build.specs.Answers.{built, outAfter};
 
@@ -17,14 +17,23 @@ pub enum Built {
     Refused(u8),
 }
 
-// The byte at a place of a run, or another one where the run does not reach so far.
-fn byte_or(bytes: &[u8], at: usize, other: u8) -> u8
-    ensures { λ r. ⌜ r ≡ getD (now (bytes .entry)) at other ⌝ }
+// Does a code spoil its sector?
+pub fn spoils(code: u8) -> bool
+    ensures { λ r. ⌜ r ≡ spoils code ⌝ }
 {
-    if bytes.len() <= at {
-        return other;
+    if code == 0x02 {
+        return true;
     }
-    bytes[at]
+    if code == 0x03 {
+        return true;
+    }
+    if code == 0x04 {
+        return true;
+    }
+    if code == 0x05 {
+        return true;
+    }
+    code == 0x09
 }
 
 // The bytes of a sector; what is not supplied is zeros.
@@ -35,7 +44,7 @@ fn payload_of(payloads: &[u8], sector: usize) -> [u8; 256]
     let mut payload = [0u8; 256];
     let mut i: usize = 0;
     while i < 256 {
-        payload[i] = byte_or(payloads, 256 * sector + i, 0);
+        payload[i] = base::byte_or(payloads, 256 * sector + i, 0);
         i += 1;
     }
     payload
@@ -98,27 +107,15 @@ pub fn put_data_block(out: &mut [u8], at: usize, code: u8, payload: &[u8])
     gcr_blocks::encode_block(out, at, &block);
 }
 
-// One byte stored n times from `at` on.
-fn fill(out: &mut [u8], at: usize, n: usize, value: u8)
-    requires { ⌜ at + n ≤ length (now out) ⌝ }
-    ensures { λ r. ⌜ now (out .exit) ≡ sets (now (out .entry)) at (replicate n value) ⌝ }
-{
-    let mut i: usize = 0;
-    while i < n {
-        out[at + i] = value;
-        i += 1;
-    }
-}
-
 // The bytes of a block of n groups, with sync before and a gap after it, stored from `at` on.
 fn put_block(out: &mut [u8], at: usize, bytes: &[u8], n: usize, after: usize)
     requires { ⌜ at + (5 + 5 * n + after) ≤ length (now out) ⌝ }
     requires { ⌜ 4 * n ≤ length (now bytes) ⌝ }
     ensures { λ r. ⌜ now (out .exit) ≡ sets (now (out .entry)) at (block n (now (bytes .entry)) after) ⌝ }
 {
-    fill(out, at, 5, 0xFF);
+    base::fill(out, at, 5, 0xFF);
     gcr_blocks::encode_groups(out, at + 5, bytes, n);
-    fill(out, at + 5 + 5 * n, after, 0x55);
+    base::fill(out, at + 5 + 5 * n, after, 0x55);
 }
 
 // The first 24 bytes of a slot: its header's block; with code 2 gap.
@@ -128,7 +125,7 @@ fn put_front(out: &mut [u8], at: usize, code: u8, header: &[u8])
     ensures { λ r. ⌜ now (out .exit) ≡ sets (now (out .entry)) at (pick (eqb code 2) (gap 24) (block 2 (now (header .entry)) 9)) ⌝ }
 {
     if code == 0x02 {
-        fill(out, at, 24, 0x55);
+        base::fill(out, at, 24, 0x55);
         return;
     }
     put_block(out, at, header, 2, 9);
@@ -142,7 +139,7 @@ fn put_slot(out: &mut [u8], at: usize, code: u8, header: &[u8], body: &[u8], aft
     ensures { λ r. ⌜ now (out .exit) ≡ sets (now (out .entry)) at (slot code (now (header .entry)) (now (body .entry)) after) ⌝ }
 {
     if code == 0x03 {
-        fill(out, at, 354 + after, 0x55);
+        base::fill(out, at, 354 + after, 0x55);
         return;
     }
     put_front(out, at, code, header);
@@ -173,7 +170,7 @@ fn put_sector(
     ensures { λ r. ⌜ (r ≡ slotSize (zoneOf track) sector)
         × (now (out .exit) ≡ sets (now (out .entry)) at (slotOf track (now (payloads .entry)) (now (codes .entry)) id1 id2 sector)) ⌝ }
 {
-    let code = byte_or(codes, sector as usize, 1);
+    let code = base::byte_or(codes, sector as usize, 1);
     let header = header_bytes(code, sector, track, id1, id2);
     let body = sector_bytes(code, payloads, sector as usize);
     let after = geometry::gap_after(track, sector as usize);

@@ -37,7 +37,7 @@ same-length c = search needs
 returns-3 : tie.Need-returns-3
 returns-3 c =
     let a = c .before .before .before .before .before .before .before .before .before .args in
-    decode-done (now (a .code)) (now (a .out)) _ (omega arith)
+    decode-done (now (a .code)) (now (a .out)) (omega arith) _
     (sym (c .before .before .before .before .before .legal-groups .ensures) ∙ not-false _ (c .before .before .before .before .if2 .left))
     (c .before .before .decode-groups .ensures)
 

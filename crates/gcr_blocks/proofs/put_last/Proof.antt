@@ -13,7 +13,7 @@ use Rattle.gcr_blocks.proofs.put_last.Statement.{statement}
 use Rattle.gcr_blocks.proofs.put_last.Tie as tie
 use Rattle.gcr_blocks.proofs.put_last.Reads as reads
 use Rattle.gcr_blocks.proofs.put_last.Lts as lts
-use Rattle.gcr_blocks.proofs.byte_or_zero.Reads as byte-or-zero-reads
+use Rattle.base.proofs.byte_or.Reads as byte-or-reads
 use Rattle.gcr_blocks.proofs.put_group.Reads as put-group-reads
 
 mul-k : tie.Need-mul-k
@@ -22,23 +22,23 @@ mul-k c = search needs
 shared-slice-read-t7 : tie.Need-shared-slice-read-t7
 shared-slice-read-t7 c = search needs
 
-add-byte-or-zero : tie.Need-add-byte-or-zero
-add-byte-or-zero c = search needs
+add-byte-or : tie.Need-add-byte-or
+add-byte-or c = search needs
 
-byte-or-zero-requires : tie.Need-byte-or-zero-requires
-byte-or-zero-requires c κs = search needs
+byte-or-requires : tie.Need-byte-or-requires
+byte-or-requires c κs = search needs
 
-add-byte-or-zero-2 : tie.Need-add-byte-or-zero-2
-add-byte-or-zero-2 c = search needs
+add-byte-or-2 : tie.Need-add-byte-or-2
+add-byte-or-2 c = search needs
 
-byte-or-zero-requires-2 : tie.Need-byte-or-zero-requires-2
-byte-or-zero-requires-2 c κs = search needs
+byte-or-requires-2 : tie.Need-byte-or-requires-2
+byte-or-requires-2 c κs = search needs
 
-add-byte-or-zero-3 : tie.Need-add-byte-or-zero-3
-add-byte-or-zero-3 c = search needs
+add-byte-or-3 : tie.Need-add-byte-or-3
+add-byte-or-3 c = search needs
 
-byte-or-zero-requires-3 : tie.Need-byte-or-zero-requires-3
-byte-or-zero-requires-3 c κs = search needs
+byte-or-requires-3 : tie.Need-byte-or-requires-3
+byte-or-requires-3 c κs = search needs
 
 mul-put-group : tie.Need-mul-put-group
 mul-put-group c = search needs
@@ -58,8 +58,8 @@ returns c =
     let h : k + 4 ≤ length p = omega (arith, length-append b (replicate 3 0)) in
     c .before .before .put-group .ensures
     ∙ ap (λ (l : List ℕ). sets (now (s .args .out)) (5 * s .args .whole) (encodeGroup l))
-    (filled b k _ _ _ _ refl (c .before .before .before .before .before .before .byte-or-zero .ensures)
-    (c .before .before .before .before .before .byte-or-zero2 .ensures) (c .before .before .before .before .byte-or-zero3 .ensures)
+    (filled b k _ _ _ _ refl (c .before .before .before .before .before .before .byte-or .ensures)
+    (c .before .before .before .before .before .byte-or2 .ensures) (c .before .before .before .before .byte-or3 .ensures)
     ∙ window-is p k 4 h)
 
 pub put-last-spec : {M : Type 1} → statement M
@@ -68,12 +68,12 @@ put-last-spec =
     (tie.spec
     mul-k
     shared-slice-read-t7
-    add-byte-or-zero
-    byte-or-zero-requires
-    add-byte-or-zero-2
-    byte-or-zero-requires-2
-    add-byte-or-zero-3
-    byte-or-zero-requires-3
+    add-byte-or
+    byte-or-requires
+    add-byte-or-2
+    byte-or-requires-2
+    add-byte-or-3
+    byte-or-requires-3
     mul-put-group
     put-group-requires
     same-length

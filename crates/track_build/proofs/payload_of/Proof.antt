@@ -11,7 +11,7 @@ use Rattle.track_build.proofs.payload_of.Statement.{statement}
 use Rattle.track_build.proofs.payload_of.Tie as tie
 use Rattle.track_build.proofs.payload_of.Reads as reads
 use Rattle.track_build.proofs.payload_of.Lts as lts
-use Rattle.track_build.proofs.byte_or.Reads as byte-or-reads
+use Rattle.base.proofs.byte_or.Reads as byte-or-reads
 
 abbrev Inv-loop : tie.InvT-loop
 Inv-loop payloads sector payload₀ i₀ payload i =

@@ -5,7 +5,7 @@ use Rattle.track_build.proofs.put_block.Tie as tie
 use Rattle.track_build.proofs.put_block.Reads as reads
 use Rattle.track_build.proofs.put_block.Lts as lts
 use Rattle.gcr_blocks.proofs.encode_groups.Reads as encode-groups-reads
-use Rattle.track_build.proofs.fill.Reads as fill-reads
+use Rattle.base.proofs.fill.Reads as fill-reads
 
 fill-requires : tie.Need-fill-requires
 fill-requires c κs = search needs

@@ -4,7 +4,7 @@ use Rattle.track_build.proofs.put_front.Statement.{statement}
 use Rattle.track_build.proofs.put_front.Tie as tie
 use Rattle.track_build.proofs.put_front.Reads as reads
 use Rattle.track_build.proofs.put_front.Lts as lts
-use Rattle.track_build.proofs.fill.Reads as fill-reads
+use Rattle.base.proofs.fill.Reads as fill-reads
 use Rattle.track_build.proofs.put_block.Reads as put-block-reads
 
 fill-requires : tie.Need-fill-requires

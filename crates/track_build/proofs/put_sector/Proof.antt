@@ -8,7 +8,7 @@ use Rattle.track_build.proofs.put_sector.Tie as tie
 use Rattle.track_build.proofs.put_sector.Reads as reads
 use Rattle.track_build.proofs.put_sector.Lts as lts
 use Rattle.geometry.proofs.gap_after.Reads as gap-after-reads
-use Rattle.track_build.proofs.byte_or.Reads as byte-or-reads
+use Rattle.base.proofs.byte_or.Reads as byte-or-reads
 use Rattle.track_build.proofs.header_bytes.Reads as header-bytes-reads
 use Rattle.track_build.proofs.put_slot.Reads as put-slot-reads
 use Rattle.track_build.proofs.sector_bytes.Reads as sector-bytes-reads

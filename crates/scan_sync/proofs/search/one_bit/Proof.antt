@@ -5,7 +5,7 @@ use native.Mathlib.Omega.{arith}
 use lib.Bits.{and-mask}
 use lib.ListN.{length, getD}
 use Rattle.ring.specs.Bit.{bitAt}
-use Rattle.scan_sync.specs.Helpers.{oneBit}
+use Rattle.scan_sync.specs.Inside.{oneBit}
 use borrow.Author.Needs.{needs}
 use Rattle.scan_sync.proofs.search.one_bit.Statement.{statement}
 use Rattle.scan_sync.proofs.search.one_bit.Tie as tie

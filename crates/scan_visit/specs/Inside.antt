@@ -4,9 +4,10 @@ use mathlib.Core.Bool.{Bool}
 use mathlib.Core.Path.{_≡_}
 use mathlib.Core.List.{List}
 use lib.ListN.{length, replicate}
+use Rattle.base.specs.Choice.{pick}
 use Rattle.gcr.specs.Symbols.{Bytes}
 use Rattle.gcr.specs.Places.{decodeAt}
-use Rattle.gcr_blocks.specs.Answers.{unlessIllegal, isReadable}
+use Rattle.gcr_blocks.specs.Answers.{isReadable, bytesIn}
 use Rattle.ring.specs.Bit.{bitAt}
 use Rattle.ring.specs.Run.{readBytes}
 use Rattle.scan_visit.specs.declared.HeaderAt.{HeaderAt}
@@ -19,7 +20,7 @@ use Rattle.scan_visit.specs.Answers.{headerAnswer, dataAnswer}
 pub record CopyDecoded (ring : List ℕ) (place : ℕ) (code out codeAfter after : List ℕ) (ok : Bool) : Type 0 where
   pub copied : codeAfter ≡ readBytes ring place (length code)
   pub told : ok ≡ isReadable (decodeAt (bitAt ring) place (length out))
-  pub laid : after ≡ unlessIllegal (λ n. out) (λ b. b) (decodeAt (bitAt ring) place (length out))
+  pub laid : after ≡ pick ok (bytesIn (decodeAt (bitAt ring) place (length out))) out
 
 -- a header by its eight bytes, whatever the data search comes to
 abbrev pub headerBy : ℕ → List ℕ → HeaderAt
