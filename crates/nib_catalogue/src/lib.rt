@@ -17,7 +17,8 @@ pub enum Entry {
     Refused(u8),
 }
 
-fn is_nib(image: &[u8]) -> bool
+// Is this a NIB image?
+pub fn is_nib(image: &[u8]) -> bool
     ensures { λ r. ⌜ r ≡ isNib (now (image .entry)) ⌝ }
 {
     if image.len() < 256 {
