@@ -2,19 +2,19 @@
  * Fielbmaru: Commodore 1541 disk images, for C.
  *
  * Every function here is proved against a definition, for every input (see the repository's README.md): it reads and writes
- * inside what it is lent, it ends, and it answers what the definition says. It keeps nothing between calls, allocates nothing,
- * and may be called from several threads at once on different buffers.
+ * inside what it is lent, it ends, and it returns what the definition says. It keeps nothing between calls, allocates nothing,
+ * and may be called from several threads at once on different buffers. The rules are in docs/RULES.md.
  *
  * Build and link (x86-64 Linux):
  *
  *     bin/library                                               # proves it, and writes target/staticlib/libfielbmaru.a
  *     gcc -I include mine.c target/staticlib/libfielbmaru.a
  *
- * ANSWERS. Each function but fielbmaru_orbit answers 0 when it is done, or a refusal number. Refused, nothing that was lent has
- * changed: no byte, no row, no number behind a pointer. Where several refusals apply the first in a function's own list is the
- * answer.
+ * WHAT IS RETURNED. Each function but fielbmaru_orbit returns 0 when it is done, or a refusal number. Refused, nothing that was
+ * lent has changed: no byte, no row, no number behind a pointer. Where several refusals apply, the first in a function's own
+ * list is returned.
  *
- * WHAT A CALLER SEES TO. The proof says nothing of a call that breaks these:
+ * WHAT A CALLER MUST SEE TO. The proof says nothing about a call that breaks these:
  *   - a pointer is never NULL, also where its length is 0, and leads to as many bytes (or uint64_t or records, aligned) as its
  *     length says; uint8_t x[256] leads to 256 bytes;
  *   - what a function writes to (any pointer without const) overlaps nothing else that is lent in the same call, and no other
@@ -44,7 +44,10 @@
 extern "C" {
 #endif
 
-/* The refusal numbers. */
+/* The version of the library; the file VERSION has the same. */
+#define FIELBMARU_VERSION "0.9.0"
+
+/* The refusal numbers. (tests/refusals holds them to the library's other lists.) */
 #define FIELBMARU_DONE             0
 #define FIELBMARU_RING_EMPTY       1  /* the ring has no byte */
 #define FIELBMARU_RING_TOO_LONG    2  /* the ring has more than 65,535 bytes */
@@ -54,11 +57,11 @@ extern "C" {
 #define FIELBMARU_WRONG_LINK       6  /* a directory link is out of range, repeated, or unreadable */
 #define FIELBMARU_NO_ROOM          7  /* a lent output is shorter than needed */
 #define FIELBMARU_NO_RING          8  /* NIB encoding with no ring */
-#define FIELBMARU_TOO_MANY_RECORDS 9  /* more than 195 records: proved to happen on no ring */
-#define FIELBMARU_WRONG_SUM       10  /* payload bytes no multiple of 256; ring bytes not the sum of the ring lengths */
+#define FIELBMARU_TOO_MANY_RECORDS 9  /* more than 195 records: proved not to be possible */
+#define FIELBMARU_WRONG_SUM       10  /* payload bytes not a multiple of 256; ring bytes not the sum of the ring lengths */
 #define FIELBMARU_NO_RECORD       11  /* no valid record of that sector */
 #define FIELBMARU_AMBIGUOUS       12  /* several records (unique rule), or differing ones (consistent rule) */
-#define FIELBMARU_ILLEGAL_SYMBOL  13  /* a five-bit symbol outside the table; no function here answers it */
+#define FIELBMARU_ILLEGAL_SYMBOL  13  /* a five-bit symbol outside the table; no function here returns it */
 
 /* Sizes. */
 #define FIELBMARU_MAX_RING       65535  /* bytes of the longest ring */
@@ -83,13 +86,13 @@ extern "C" {
 /*
  * Builds a track: FIELBMARU_TRACK_BYTES(track) bytes at the front of `out`; what follows them in `out` is kept.
  *
- * payloads  256 bytes a sector, from sector 0 on. Sectors without are zeros; surplus is not looked at.
- * codes     an error code a sector, as in the error bytes of a D64. Sectors without have code 1, which is no error.
+ * payloads  256 bytes for each sector, from sector 0 on. Sectors without a payload are zeros; surplus is not looked at.
+ * codes     an error code for each sector, as in the error bytes of a D64. Sectors without one have code 1, which is no error.
  *           2: no header (its place is gap); 3: no sector at all; 4: marker 00 for the data block's 07; 5: data checksum inverted;
  *           9: header checksum inverted; 0x0B: both ids inverted. Every other code builds a normal sector.
  * id1, id2  the disk's id, as in the header blocks.
  *
- * Refused: WRONG_SUM (payloads_len is no multiple of 256), NO_ROOM (out_len is below the track's bytes).
+ * Refused: WRONG_SUM (payloads_len is not a multiple of 256), NO_ROOM (out_len is below the track's bytes).
  */
 uint64_t fielbmaru_build_track(uint8_t track, const uint8_t *payloads, size_t payloads_len, const uint8_t *codes, size_t codes_len,
                                uint8_t id1, uint8_t id2, uint8_t *out, size_t out_len);
@@ -98,9 +101,9 @@ uint64_t fielbmaru_build_track(uint8_t track, const uint8_t *payloads, size_t pa
  * Lists every sector record of a ring, in the order in which one revolution from the start bit on meets them. A sector may be
  * met more than once.
  *
- * rows      two numbers a record: its sector, and the bit where its data block begins, counted on from the scan's start past the
+ * rows      two numbers for each record: its sector, and the bit where its data block begins, counted on from the scan's start past the
  *           ring's end (not reduced).
- * payloads  256 bytes a record.
+ * payloads  256 bytes for each record.
  * count     how many records there are. Rows and payloads behind them are kept.
  *
  * rows_len counts numbers, not bytes. Room for 195 records is needed, whatever is found: FIELBMARU_SCAN_ROWS and
@@ -130,8 +133,8 @@ uint64_t fielbmaru_scan_records(const uint8_t *ring, size_t ring_len, uint8_t tr
 /*
  * Reads all sectors of a track, each by its first record.
  *
- * payloads  256 bytes a sector, from sector 0 on; a missing sector's are zeros. Needs 256 * FIELBMARU_SECTORS(track) bytes.
- * statuses  a byte a sector: FIELBMARU_HANDED_OUT or FIELBMARU_MISSING. Needs FIELBMARU_SECTORS(track) bytes.
+ * payloads  256 bytes for each sector, from sector 0 on; zeros where a sector is missing. Needs 256 * FIELBMARU_SECTORS(track) bytes.
+ * statuses  a byte for each sector: FIELBMARU_HANDED_OUT or FIELBMARU_MISSING. Needs FIELBMARU_SECTORS(track) bytes.
  * found     how many sectors were handed out. Bytes behind the track's sectors are kept.
  *
  * Refused: NO_ROOM, RING_EMPTY, RING_TOO_LONG, TOO_MANY_RECORDS.
@@ -156,14 +159,14 @@ uint64_t fielbmaru_replace_unique(uint8_t *ring, size_t ring_len, uint8_t track,
 uint64_t fielbmaru_replace_consistent(uint8_t *ring, size_t ring_len, uint8_t track, uint8_t sector, const uint8_t data[256]);
 
 /*
- * The span of a NIB window's orbit: its first so many bytes are one revolution. It answers the span, not a refusal number; 0
- * where the window is not FIELBMARU_WINDOW bytes. The zone is taken modulo 4.
+ * The span of a NIB window's orbit: so many of its first bytes are taken for one revolution, which is an estimate. It returns
+ * the span, not a refusal number; 0 where the window does not have FIELBMARU_WINDOW bytes. The zone is taken modulo 4.
  */
 uint64_t fielbmaru_orbit(const uint8_t *window, size_t window_len, uint8_t zone);
 
 /*
  * Where the ring of a slot lies in a NIB file: it begins at byte `at` of the image and has `span` bytes; `zone` is 0 to 3. For
- * a slot that the file has not, all three are 0, which is no refusal.
+ * a slot that the file does not have, all three are 0, which is not a refusal.
  *
  * Refused: WRONG_IMAGE, WRONG_ENTRIES (also for a slot above 83).
  */
@@ -172,7 +175,7 @@ uint64_t fielbmaru_nib_slot(const uint8_t *image, size_t image_len, uint64_t slo
 /*
  * Makes a NIB file of rings, each repeated over a window of its own.
  *
- * lengths  the length of each slot's ring, from slot 0 on; 0 for a slot without. At most 84 are looked at, missing ones are 0.
+ * lengths  the length of each slot's ring, from slot 0 on; 0 for a slot without one. At most 84 are looked at; missing ones are 0.
  * zones    the zone of each slot, taken modulo 4; missing ones are 0.
  * rings    the bytes of all rings, joined in the order of the slots.
  * written  the size of the file: 256 + 8192 for each ring. `out` behind it is kept.
@@ -185,14 +188,17 @@ uint64_t fielbmaru_encode_nib(const uint64_t *lengths, size_t lengths_len, const
                               const uint8_t *rings, size_t rings_len, uint8_t *out, size_t out_len, uint64_t *written);
 
 /*
- * Clears a disk image: every sector of tracks 1 to 35 that the BAM has free becomes zeros, but for 18/0 and the sectors of the
- * directory, and but for sectors that cannot be read. G64 sectors are read by the unique rule, NIB sectors by the consistent
- * rule on the whole window.
+ * Clears a disk image: takes every sector of tracks 1 to 35 that the BAM has free, except 18/0 and the sectors of the directory,
+ * by track and sector.
+ *
+ * In a D64 each becomes 256 zeros. In a G64 or a NIB each is read at its turn, from the image as it then is (rings may overlap):
+ * one that reads and has a byte that is not zero gets a data block of zeros at each of its records, and one that is not readable
+ * is kept. G64 sectors are read by the unique rule, NIB sectors by the consistent rule on the whole window.
  *
  * free_sectors  how many sectors are free, and neither 18/0 nor of the directory.
- * changed       how many of those were cleared: they read, and had a byte that was not zero.
+ * changed       how many of those were zeroed: they read, and had a byte that was not zero.
  *
- * Refused: WRONG_IMAGE, WRONG_ENTRIES (G64 and NIB), NO_DIRECTORY, WRONG_LINK.
+ * Refused: a D64 WRONG_IMAGE, WRONG_LINK; a G64 or a NIB WRONG_IMAGE, WRONG_ENTRIES, NO_DIRECTORY, WRONG_LINK.
  */
 uint64_t fielbmaru_clear_d64(uint8_t *image, size_t image_len, uint64_t *free_sectors, uint64_t *changed);
 uint64_t fielbmaru_clear_g64(uint8_t *image, size_t image_len, uint64_t *free_sectors, uint64_t *changed);

@@ -75,6 +75,25 @@ fn records_of_a_ring() {
 }
 
 #[test]
+fn records_as_structs() {
+    let ring = built(31, &[5; 256]);
+    let (mut rows, mut payloads) = ([77; SCAN_ROWS], [77; SCAN_PAYLOADS]);
+    let lent = Record { sector: 77, place: 77, payload: [77; 256] };
+    let mut records = [lent; SCAN_RECORDS + 1];
+    assert_eq!(scan_records(&ring, 31, 0, &mut records[..SCAN_RECORDS - 1]), Err(Refusal::NoRoom));
+    assert_eq!(scan_records(&[], 31, 0, &mut records), Err(Refusal::RingEmpty));
+    assert!(records.iter().all(|record| *record == lent));
+    assert_eq!(scan(&ring, 31, 1600, &mut rows, &mut payloads), Ok(17));
+    assert_eq!(scan_records(&ring, 31, 1600, &mut records), Ok(17));
+    for (n, record) in records[..17].iter().enumerate() {
+        assert_eq!((record.sector, record.place), (rows[2 * n], rows[2 * n + 1]));
+        assert_eq!(record.payload, payloads[256 * n..256 * (n + 1)]);
+    }
+    assert!(records[17..].iter().all(|record| *record == lent));
+    assert_eq!(std::mem::size_of::<Record>(), 272);
+}
+
+#[test]
 fn nib_files() {
     let mut tracks = [built(1, &[5; 256 * 21]), built(18, &disk_track())];
     let mut lengths = [0; SLOTS];
@@ -129,4 +148,8 @@ fn images_cleared() {
 fn refusals_have_their_numbers() {
     assert_eq!(Refusal::RingEmpty as u64, 1);
     assert_eq!(Refusal::IllegalSymbol.to_string(), "refused 13 (IllegalSymbol)");
+    for number in 1..=13 {
+        assert_eq!(Refusal::of(number) as u64, number);
+    }
+    assert_eq!([Refusal::of(0), Refusal::of(14), Refusal::of(u64::MAX)], [Refusal::Unknown; 3]);
 }

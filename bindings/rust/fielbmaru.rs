@@ -1,8 +1,8 @@
 //! Fielbmaru: Commodore 1541 disk images, for Rust.
 //!
 //! Safe functions over the exported functions of `libfielbmaru.a`, each of which is proved against a definition, for every input.
-//! What is added here is little: lengths and pointers are those of slices, and the answer is a `Result`. Refused, nothing that
-//! was lent has changed.
+//! What is added here is little: lengths and pointers are those of slices, and a refusal is returned as the error of a `Result`.
+//! Refused, nothing that was lent has changed.
 //!
 //! Build and link with no cargo (x86-64 Linux):
 //!
@@ -27,7 +27,7 @@
 
 use std::fmt;
 
-/// Why the library did nothing. The numbers are those of the library.
+/// Why the library did nothing. The numbers are those of the library (tests/refusals holds them to its other lists).
 #[derive(Clone, Copy, Debug, PartialEq, Eq, Hash)]
 pub enum Refusal {
     /// The ring has no byte.
@@ -46,16 +46,18 @@ pub enum Refusal {
     NoRoom = 7,
     /// NIB encoding with no ring.
     NoRing = 8,
-    /// More than 195 records: proved to happen on no ring.
+    /// More than 195 records: proved not to be possible.
     TooManyRecords = 9,
-    /// Payload bytes no multiple of 256; ring bytes not the sum of the ring lengths.
+    /// Payload bytes not a multiple of 256; ring bytes not the sum of the ring lengths.
     WrongSum = 10,
     /// No valid record of that sector.
     NoRecord = 11,
     /// Several records (unique rule), or differing ones (consistent rule).
     Ambiguous = 12,
-    /// A five-bit symbol outside the table; no function here answers it.
+    /// A five-bit symbol outside the table; no function here returns it.
     IllegalSymbol = 13,
+    /// A number that this file does not know: the library is newer than it.
+    Unknown = 255,
 }
 
 const REFUSALS: [Refusal; 13] = [
@@ -82,17 +84,28 @@ impl fmt::Display for Refusal {
 
 impl std::error::Error for Refusal {}
 
-/// 0 is done; every other answer is the number of a refusal.
-fn done(answer: u64) -> Result<(), Refusal> {
-    match answer {
+impl Refusal {
+    /// The refusal of this number; `Unknown` where there is none.
+    pub fn of(number: u64) -> Refusal {
+        let known = REFUSALS.into_iter().find(|refusal| *refusal as u64 == number);
+        known.unwrap_or(Refusal::Unknown)
+    }
+}
+
+/// 0 is done; every other number is that of a refusal.
+fn done(number: u64) -> Result<(), Refusal> {
+    match number {
         0 => Ok(()),
-        number => Err(REFUSALS[number as usize - 1]),
+        _ => Err(Refusal::of(number)),
     }
 }
 
 /// The numbers that a scan needs for its rows, and the bytes for its payloads: 195 records, whatever is found.
 pub const SCAN_ROWS: usize = 390;
 pub const SCAN_PAYLOADS: usize = 49920;
+
+/// The records that [`scan_records`] needs room for, whatever is found.
+pub const SCAN_RECORDS: usize = 195;
 
 /// The bytes of a NIB window, the bytes before the first one, and the half-track slots; slot 2 * (t - 1) is track t.
 pub const WINDOW: usize = 8192;
@@ -125,10 +138,10 @@ pub const fn sectors(track: u8) -> usize {
 
 /// Builds a track at the front of `out`, and hands back that part; what follows it is kept.
 ///
-/// `payloads` has 256 bytes a sector from sector 0 on, `codes` an error code a sector, as in the error bytes of a D64. Sectors
-/// without are zeros, and code 1, which is no error; surplus is not looked at.
+/// `payloads` has 256 bytes for each sector from sector 0 on, `codes` an error code for each, as in the error bytes of a D64.
+/// Sectors without are zeros and have code 1, which is no error; surplus is not looked at.
 ///
-/// Refused: `WrongSum` (payload bytes no multiple of 256), `NoRoom` (`out` is shorter than [`track_bytes`]).
+/// Refused: `WrongSum` (payload bytes not a multiple of 256), `NoRoom` (`out` is shorter than [`track_bytes`]).
 pub fn build_track<'a>(
     track: u8,
     payloads: &[u8],
@@ -153,7 +166,7 @@ pub fn build_track<'a>(
     Ok(&mut out[..track_bytes(track)])
 }
 
-/// Lists every sector record that one revolution from the start bit on meets, and answers how many there are.
+/// Lists every sector record that one revolution from the start bit on meets, and returns how many there are.
 ///
 /// `rows` gets two numbers a record, its sector and the bit where its data block begins (counted on past the ring's end),
 /// `payloads` 256 bytes a record. Room is needed for [`SCAN_ROWS`] and [`SCAN_PAYLOADS`].
@@ -183,7 +196,40 @@ pub fn scan(
     Ok(count as usize)
 }
 
-/// Reads all sectors of a track, each by its first record, and answers how many were found.
+/// A record: its sector, the bit where its data block begins, and its payload. Laid out as the header's `fielbmaru_record`.
+#[repr(C)]
+#[derive(Clone, Copy, Debug, PartialEq, Eq)]
+pub struct Record {
+    pub sector: u64,
+    pub place: u64,
+    pub payload: [u8; 256],
+}
+
+impl Record {
+    /// A record of zeros, to make room with: `[Record::ZEROS; SCAN_RECORDS]`.
+    pub const ZEROS: Record = Record { sector: 0, place: 0, payload: [0; 256] };
+}
+
+/// As [`scan`], into a list of records. Room is needed for [`SCAN_RECORDS`]; records behind the last one found are kept.
+///
+/// Refused: `NoRoom`, `RingEmpty`, `RingTooLong`.
+pub fn scan_records(ring: &[u8], track: u8, start_bit: u64, records: &mut [Record]) -> Result<usize, Refusal> {
+    let mut count = 0;
+    done(unsafe {
+        linked::fielbmaru_scan_records(
+            ring.as_ptr(),
+            ring.len(),
+            track,
+            start_bit,
+            records.as_mut_ptr(),
+            records.len(),
+            &mut count,
+        )
+    })?;
+    Ok(count as usize)
+}
+
+/// Reads all sectors of a track, each by its first record, and returns how many were found.
 ///
 /// `payloads` gets 256 bytes a sector, zeros for a missing one; `statuses` gets [`HANDED_OUT`] or [`MISSING`] a sector.
 ///
@@ -267,7 +313,7 @@ pub fn nib_slot(image: &[u8], slot: u64) -> Result<Option<Slot<'_>>, Refusal> {
     Ok(Some(Slot { ring: &image[at..at + span], at, zone: zone as u8 }))
 }
 
-/// Makes a NIB file of rings at the front of `out`, each ring repeated over a window of its own, and answers the file's size.
+/// Makes a NIB file of rings at the front of `out`, each ring repeated over a window of its own, and returns the file's size.
 ///
 /// `lengths` and `zones` have a number a slot, from slot 0 on: length 0 is a slot without, missing numbers are 0, those after
 /// the 84th are not looked at. `rings` has the bytes of all rings, joined in the order of the slots.
@@ -291,8 +337,8 @@ pub fn encode_nib(lengths: &[u64], zones: &[u8], rings: &[u8], out: &mut [u8]) -
     Ok(written as usize)
 }
 
-/// What clearing found: the free sectors, but for 18/0 and the directory's, and how many of them were cleared, since they read
-/// and had a byte that was not zero.
+/// What clearing found: the free sectors, except 18/0 and the directory's, and how many of them were zeroed, since they read and
+/// had a byte that was not zero.
 #[derive(Clone, Copy, Debug, PartialEq, Eq)]
 pub struct Cleared {
     pub free_sectors: u64,
@@ -307,21 +353,21 @@ fn clear(clearer: Clearer, image: &mut [u8]) -> Result<Cleared, Refusal> {
     Ok(Cleared { free_sectors, changed })
 }
 
-/// Clears the sectors of tracks 1 to 35 of a D64 image that its BAM has free.
+/// Zeroes the sectors of tracks 1 to 35 of a D64 image that its BAM has free, except 18/0 and the directory's.
 ///
-/// Refused: `WrongImage`, `NoDirectory`, `WrongLink`.
+/// Refused: `WrongImage`, `WrongLink`.
 pub fn clear_d64(image: &mut [u8]) -> Result<Cleared, Refusal> {
     clear(linked::fielbmaru_clear_d64, image)
 }
 
-/// The same for a G64 image, whose sectors are read by the unique rule; those that cannot be read are kept.
+/// The same for a G64 image, whose sectors are read by the unique rule, each at its turn; those that are not readable are kept.
 ///
 /// Refused: `WrongImage`, `WrongEntries`, `NoDirectory`, `WrongLink`.
 pub fn clear_g64(image: &mut [u8]) -> Result<Cleared, Refusal> {
     clear(linked::fielbmaru_clear_g64, image)
 }
 
-/// The same for a NIB image, whose sectors are read by the consistent rule on each whole window.
+/// The same for a NIB image, whose sectors are read by the consistent rule on each whole window, each at its turn.
 ///
 /// Refused: `WrongImage`, `WrongEntries`, `NoDirectory`, `WrongLink`.
 pub fn clear_nib(image: &mut [u8]) -> Result<Cleared, Refusal> {
@@ -352,6 +398,15 @@ mod linked {
             rows_len: usize,
             payloads: *mut u8,
             payloads_len: usize,
+            count: *mut u64,
+        ) -> u64;
+        pub fn fielbmaru_scan_records(
+            ring: *const u8,
+            ring_len: usize,
+            track: u8,
+            start_bit: u64,
+            records: *mut super::Record,
+            records_len: usize,
             count: *mut u64,
         ) -> u64;
         pub fn fielbmaru_decode_track(

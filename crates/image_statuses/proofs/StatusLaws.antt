@@ -1,31 +1,26 @@
 -- The statuses of a track: each way that the code goes.
 use mathlib.Core.Path.{_≡_, ap, sym, _∙_}
 use mathlib.Core.Bool.{Bool, true, false}
-use mathlib.Core.List.{List, [], _++_, append-nil}
-use Prim.Native.Nat.{ℕ, _+_, _-_, _*_, _/_, _≤_, _<_}
+use mathlib.Core.List.{List, _++_}
+use Prim.Native.Nat.{ℕ, _+_, _-_, _≤_, _<_}
 use native.Mathlib.Omega.{arith}
 use native.Mathlib.Nat.{sub-zero}
-use native.Mathlib.Decide.{decLt}
 use lib.Dec.{leb}
-use lib.ListN.{length, getD, take, drop, replicate, length-replicate}
-use lib.Seq.{drop-length, take-at}
+use lib.ListN.{length, getD, take, drop, replicate}
+use lib.Seq.{take-at}
 use Rattle.base.specs.Bytes.{anyNonzero}
 use Rattle.base.specs.Lists.{tab}
 use Rattle.base.specs.Refusals.{noRoom}
-use Rattle.base.proofs.Tests.{eqb-no, ltb-yes, ltb-no, leb-yes, leb-no}
+use Rattle.base.proofs.Tests.{leb-yes, leb-no}
 use Rattle.base.proofs.Lists.{length-tab}
 use Rattle.base.proofs.Picks.{pick-ind}
 use Rattle.geometry.specs.Zones.{within, sectorsOf}
 use Rattle.geometry.proofs.ZoneLaws.{sectors-of}
-use Rattle.image_d64.specs.D64.{errorByte}
 use Rattle.track_build.specs.Blocks.{spoils}
-use Rattle.scan.specs.Scan.{records}
-use Rattle.track_read.specs.Reading.{readSector, readStatuses}
-use Rattle.track_read.specs.Answers.{trackStatuses}
-use Rattle.scan.proofs.ScanLaws.{few-records}
-use Rattle.scan.proofs.Refusing.{room}
-use Rattle.track_read.proofs.Refusing.{read-empty, read-long}
+use Rattle.track_read.specs.Answers.{noTrack}
+use Rattle.track_read.proofs.StatusLaws.{Counts, none-count, ring-count}
 use Rattle.image_rings.specs.declared.Table.{Table}
+use Rattle.image_d64.specs.D64.{errorByte}
 use Rattle.image_g64.specs.G64.{g64Table}
 use Rattle.image_g64.proofs.G64Inside.{g64-inside}
 use Rattle.nib_slots.specs.Slots.{ringOf}
@@ -33,7 +28,7 @@ use Rattle.image_kind.specs.declared.Kind.{Kind}
 use Rattle.image_kind.specs.declared.Kind.the-variants.{D64, G64, Nib, Unknown}
 use Rattle.image_kind.specs.Kinds.{kindOf}
 use Rattle.image_statuses.specs.Statuses.{statusesNumber, statusesAfter, isShown}
-use Rattle.image_statuses.specs.Statuses.{noTrack, d64Status, d64Statuses, halfOf, ringStatuses, g64Ring, statusesBy, statusesOf}
+use Rattle.image_statuses.specs.Statuses.{d64Status, d64Statuses, halfOf, g64Ring, statusesBy, statusesOf}
 
 -- ---- D64
 module _ (image : List ℕ) (highest track sector : ℕ) where
@@ -54,47 +49,6 @@ module _ (image : List ℕ) (highest track : ℕ) (before after : List ℕ) (n :
   pub d64-none : highest < track → after ≡ replicate (length before) 0 → after ≡ d64Statuses image highest track
   unfolding d64Statuses
   d64-none h e = rw (leb-no track highest h, ← n) e
-
--- ---- a ring, read over a part that held zeros
-module _ (ring payloads part : List ℕ) (track : ℕ) (p : 5376 ≤ length payloads) (n : length part ≡ sectorsOf track)
-    (e : part ≡ noTrack track) where
-  for-payloads : 256 * sectorsOf track ≤ length payloads
-  for-payloads = let s = sectors-of track in omega arith
-
-  ring-empty : length ring ≡ 0 → trackStatuses ring track 0 payloads part ≡ ringStatuses ring track
-  unfolding ringStatuses
-  ring-empty z =
-      sym (read-empty ring track 0 payloads part for-payloads (omega arith) z .2) ∙ e ∙ rw (leb-no 1 (length ring) (omega arith))
-
-  ring-long : 65535 < length ring → trackStatuses ring track 0 payloads part ≡ ringStatuses ring track
-  unfolding ringStatuses
-  ring-long h =
-      sym (read-long ring track 0 payloads part for-payloads (omega arith) h .2) ∙ e
-      ∙ rw (leb-yes 1 (length ring) (omega arith), leb-no (length ring) 65535 h)
-
-  all-read : drop (sectorsOf track) part ≡ []
-  all-read = ap (λ (m : ℕ). drop m part) (sym n) ∙ drop-length part
-
-  ring-good : 0 < length ring → length ring ≤ 65535 → trackStatuses ring track 0 payloads part ≡ ringStatuses ring track
-  unfolding trackStatuses ringStatuses
-  ring-good some small =
-      rw (
-        room (256 * sectorsOf track) (length payloads) (sectorsOf track) (length part) for-payloads (omega arith),
-        eqb-no (length ring) 0 (λ z. omega arith),
-        ltb-no 65535 (length ring) small,
-        ltb-no 195 (length (records ring track 0)) (few-records ring track 0 small),
-        leb-yes 1 (length ring) some,
-        leb-yes (length ring) 65535 small,
-        all-read,
-      )
-      (append-nil (readStatuses ring track 0))
-
-  pub ring-read : trackStatuses ring track 0 payloads part ≡ ringStatuses ring track
-  ring-read =
-      elim (decLt 0 (length ring)) [
-        | yes some ↦ elim (decLt 65535 (length ring)) [ yes h ↦ ring-long h | no h ↦ ring-good some (omega arith) ]
-        | no h ↦ ring-empty (omega arith)
-      ]
 
 -- ---- the ring of a half-track
 pub ring-of : (image : List ℕ) (half : ℕ) (table : Table) → table ≡ g64Table image
@@ -150,18 +104,6 @@ module _ (image : List ℕ) (track : ℕ) where
     room-after count part c h e = rw (leb-yes (sectorsOf track) (length statuses) h, e, sub-zero, c)
 
 -- ---- a track has as many statuses as sectors
-none-count : (track : ℕ) → length (noTrack track) ≡ sectorsOf track
-none-count track = length-replicate (sectorsOf track) 0
-
-abbrev pub Counts : ℕ → List ℕ → Type 0
-Counts track l = length l ≡ sectorsOf track
-
-pub ring-count : (ring : List ℕ) (track : ℕ) → Counts track (ringStatuses ring track)
-unfolding ringStatuses
-ring-count ring track =
-    pick-ind (Counts track) (within 1 65535 (length ring)) (readStatuses ring track 0) (noTrack track)
-    (λ e. length-tab (sectorsOf track) (λ j. readSector ring track 0 j .status)) (λ e. none-count track)
-
 d64-count : (image : List ℕ) (highest track : ℕ) → Counts track (d64Statuses image highest track)
 unfolding d64Statuses
 d64-count image highest track =

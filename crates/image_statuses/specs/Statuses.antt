@@ -4,7 +4,7 @@ use Prim.Native.Nat.{ℕ, _-_, _*_}
 use mathlib.Core.Bool.{Bool, _||_}
 use mathlib.Core.List.{List, _++_}
 use lib.Dec.{leb}
-use lib.ListN.{length, getD, take, drop, replicate}
+use lib.ListN.{length, getD, take, drop}
 use Rattle.base.specs.Choice.{pick}
 use Rattle.base.specs.Bytes.{anyNonzero}
 use Rattle.base.specs.Lists.{tab}
@@ -12,15 +12,12 @@ use Rattle.base.specs.Refusals.{noRoom}
 use Rattle.geometry.specs.Zones.{within, sectorsOf}
 use Rattle.image_d64.specs.D64.{errorByte}
 use Rattle.track_build.specs.Blocks.{spoils}
-use Rattle.track_read.specs.Reading.{readStatuses}
+use Rattle.track_read.specs.Answers.{noTrack, ringStatuses}
 use Rattle.nib_slots.specs.Slots.{ringOf}
 use Rattle.image_g64.specs.G64.{g64Table}
 use Rattle.image_kind.specs.declared.Kind.{Kind}
 use Rattle.image_kind.specs.declared.Kind.the-variants.{D64, G64, Nib, Unknown}
 use Rattle.image_kind.specs.Kinds.{kindOf}
-
-abbrev pub noTrack : ℕ → List ℕ
-noTrack track = replicate (sectorsOf track) 0
 
 -- ---- D64: a sector whose error byte has a code that spoils it does not read; every other does
 unfoldable pub d64Status : List ℕ → ℕ → ℕ → ℕ → ℕ
@@ -33,9 +30,6 @@ d64Statuses image highest track =
 -- ---- G64 and NIB: the sectors read off the track's ring, from bit 0 on; track t is half-track 2(t - 1), counted from 0
 abbrev pub halfOf : ℕ → ℕ
 halfOf track = 2 * (track - 1)
-
-unfoldable pub ringStatuses : List ℕ → ℕ → List ℕ
-ringStatuses ring track = pick (within 1 65535 (length ring)) (readStatuses ring track 0) (noTrack track)
 
 abbrev pub g64Ring : List ℕ → ℕ → List ℕ
 g64Ring image half = take (getD (g64Table image .lengths) half 0) (drop (getD (g64Table image .starts) half 0) image)

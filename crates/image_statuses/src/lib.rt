@@ -5,7 +5,7 @@ ghost use lib.ListN.{length, replicate};
 ghost use Rattle.base.specs.Lists.{tab};
 ghost use Rattle.geometry.specs.Zones.{sectorsOf};
 ghost use Rattle.image_kind.specs.Kinds.{kindOf};
-ghost use Rattle.image_statuses.specs.Statuses.{d64Status, d64Statuses, halfOf, ringStatuses, g64Ring};
+ghost use Rattle.image_statuses.specs.Statuses.{d64Status, d64Statuses, halfOf, g64Ring};
 ghost use Rattle.image_statuses.specs.Statuses.{statusesBy, statusesOf, statusesNumber, statusesAfter, isShown};
 use image_kind::Kind;
 
@@ -16,7 +16,7 @@ fn fill(part: &mut [u8], v: u8)
     ensures { λ r. ⌜ now (part .exit) ≡ replicate (length (now (part .entry))) v ⌝ }
 {
     let count = part.len();
-    track_read::fill(part, count, v);
+    base::fill(part, 0, count, v);
 }
 
 fn d64_status(image: &[u8], highest: u8, track: u8, sector: u8) -> u8
@@ -53,16 +53,6 @@ fn d64_statuses(image: &[u8], highest: u8, track: u8, part: &mut [u8])
     fill(part, 0);
 }
 
-// The statuses of a ring's sectors. A ring that cannot be read is refused, which leaves the zeros.
-pub fn ring_statuses(ring: &[u8], track: u8, part: &mut [u8])
-    requires { ⌜ length (now part) ≡ sectorsOf track ⌝ }
-    ensures { λ r. ⌜ now (part .exit) ≡ ringStatuses (now (ring .entry)) track ⌝ }
-{
-    let mut payloads = [0u8; 5376];
-    fill(part, 0);
-    track_read::decode_track_from(ring, track, 0, &mut payloads, part);
-}
-
 fn half_of(track: u8) -> usize
     requires { ⌜ (0 < track) × (track ≤ 42) ⌝ }
     ensures { λ r. ⌜ (r ≡ halfOf track) × (r < 84) ⌝ }
@@ -88,8 +78,12 @@ fn statuses_by_kind(image: &[u8], track: u8, part: &mut [u8])
     let kind = image_kind::image_kind(image);
     match kind {
         Kind::D64(highest) => d64_statuses(image, highest, track, part),
-        Kind::G64 => ring_statuses(g64_ring(image, half_of(track)), track, part),
-        Kind::Nib => ring_statuses(nib_slots::nib_ring(image, half_of(track)), track, part),
+        Kind::G64 => track_read::ring_statuses(g64_ring(image, half_of(track)), track, part),
+        Kind::Nib => track_read::ring_statuses(
+            nib_slots::nib_ring(image, half_of(track)),
+            track,
+            part,
+        ),
         Kind::Unknown => fill(part, 0),
     }
 }

@@ -1,26 +1,24 @@
 -- The lines as they are put, piece by piece.
 use mathlib.Core.Path.{_≡_, refl, sym}
 use mathlib.Core.Logic.{_≢_}
-use mathlib.Core.Bool.{Bool, true, false}
 use mathlib.Core.List.{List, [], _++_}
 use Prim.Native.Nat.{ℕ, _+_, _*_, _≤_, _<_}
 use native.Mathlib.Numerals.{add-one}
 use native.Mathlib.Nat.{add-zero}
 use native.Mathlib.Omega.{arith}
-use lib.Dec.{eqb}
 use lib.ListN.{length, getD, take, drop, length-append}
-use Rattle.base.specs.Choice.{pick}
 use Rattle.base.specs.Lists.{joined, xorOf}
+use Rattle.base.specs.Words.{ascii}
 use Rattle.base.proofs.Tests.{eqb-yes, eqb-no}
 use Rattle.base.proofs.Rows.{joined-short}
+use Rattle.track_read.specs.Reading.{Handed, Given, NotGiven, standing}
 use Rattle.page_text.specs.Numerals.{decimal, decimalOf, hexOf}
 use Rattle.page_text.specs.Put.{Put}
 use Rattle.page_text.proofs.PutLaws.{put-more}
 use Rattle.page_text.proofs.DecimalLaws.{decimal-width}
 use Rattle.page_text.proofs.HexLaws.{length-hex, length-two}
-use Rattle.lister.specs.Listing.{newline, wordTrack, wordFound, wordOf, wordSector, wordSum, wordRefused}
-use Rattle.lister.specs.Listing.{headLine, sectorLine, refusedLine}
-use Rattle.lister.specs.Lines.{lineAt, lines}
+use Rattle.lister.specs.Listing.{headLine, sectorLine, refusedLine, lineOf}
+use Rattle.lister.specs.Inside.{lineAt, lines}
 
 -- nothing put
 pub put-none : (out : List ℕ) (at : ℕ) → Put out at [] out at
@@ -28,28 +26,29 @@ put-none out at = record { written = refl; next = sym (add-zero at) }
 
 -- ---- a line by its pieces
 module _ (out a b c d : List ℕ) (track found count i j k l : ℕ) where
-  pub head-put : Put out 0 (wordTrack ++ decimal track) a i → Put a i (wordFound ++ decimal found) b j
-      → Put b j (wordOf ++ decimal count) c k → Put c k newline d l → Put out 0 (headLine track found count) d l
+  pub head-put : Put out 0 (ascii "track " ++ decimal track) a i → Put a i (ascii " found " ++ decimal found) b j
+      → Put b j (ascii " of " ++ decimal count) c k → Put c k (ascii "\n") d l → Put out 0 (headLine track found count) d l
   unfolding headLine
   head-put p q r s =
-      put-more out a d (wordTrack ++ decimal track) (wordFound ++ (decimal found ++ (wordOf ++ (decimal count ++ newline)))) 0 i l p
-      (put-more a b d (wordFound ++ decimal found) (wordOf ++ (decimal count ++ newline)) i j l q
-      (put-more b c d (wordOf ++ decimal count) newline j k l r s))
+      put-more out a d (ascii "track " ++ decimal track)
+      (ascii " found " ++ (decimal found ++ (ascii " of " ++ (decimal count ++ ascii "\n")))) 0 i l p
+      (put-more a b d (ascii " found " ++ decimal found) (ascii " of " ++ (decimal count ++ ascii "\n")) i j l q
+      (put-more b c d (ascii " of " ++ decimal count) (ascii "\n") j k l r s))
 
-pub refused-put : (out a b : List ℕ) (n i j : ℕ) → Put out 0 (wordRefused ++ decimal n) a i → Put a i newline b j → Put out 0
+pub refused-put : (out a b : List ℕ) (n i j : ℕ) → Put out 0 (ascii "refused " ++ decimal n) a i → Put a i (ascii "\n") b j → Put out 0
     (refusedLine n) b j
 unfolding refusedLine
-refused-put out a b n i j p q = put-more out a b (wordRefused ++ decimal n) newline 0 i j p q
+refused-put out a b n i j p q = put-more out a b (ascii "refused " ++ decimal n) (ascii "\n") 0 i j p q
 
 module _ (out a b c d e : List ℕ) (at sector sum i j k l m : ℕ) where
-  pub sector-put : Put out at wordSector a i → Put a i (decimalOf 2 sector) b j → Put b j wordSum c k → Put c k (hexOf 2 sum) d l
-      → Put d l newline e m → Put out at (sectorLine sector sum) e m
+  pub sector-put : Put out at (ascii "sector ") a i → Put a i (decimalOf 2 sector) b j → Put b j (ascii " sum ") c k → Put c k (hexOf 2 sum) d l
+      → Put d l (ascii "\n") e m → Put out at (sectorLine sector sum) e m
   unfolding sectorLine
   sector-put p q r s t =
-      put-more out a e wordSector (decimalOf 2 sector ++ (wordSum ++ (hexOf 2 sum ++ newline))) at i m p
-      (put-more a b e (decimalOf 2 sector) (wordSum ++ (hexOf 2 sum ++ newline)) i j m q
-      (put-more b c e wordSum (hexOf 2 sum ++ newline) j k m r
-      (put-more c d e (hexOf 2 sum) newline k l m s t)))
+      put-more out a e (ascii "sector ") (decimalOf 2 sector ++ (ascii " sum " ++ (hexOf 2 sum ++ ascii "\n"))) at i m p
+      (put-more a b e (decimalOf 2 sector) (ascii " sum " ++ (hexOf 2 sum ++ ascii "\n")) i j m q
+      (put-more b c e (ascii " sum ") (hexOf 2 sum ++ ascii "\n") j k m r
+      (put-more c d e (hexOf 2 sum) (ascii "\n") k l m s t)))
 
 -- ---- how long a line is
 pub head-long : (track found count : ℕ) → track < 256 → found ≤ 21 → count ≤ 21 → length (headLine track found count) ≤ 25
@@ -67,9 +66,9 @@ unfolding sectorLine
 sector-long sector sum = simp (length-append, length-two, length-hex)
 
 -- a sector's line, or none
-pub if-found : (b : Bool) (sector sum : ℕ) → length (pick b (sectorLine sector sum) []) ≤ 17
-if-found true sector sum = omega (arith, sector-long sector sum)
-if-found false sector sum = omega arith
+pub line-short : (sector : ℕ) (h : Handed) → length (lineOf sector h) ≤ 17
+line-short sector (Given bytes) = omega (arith, sector-long sector (xorOf bytes))
+line-short sector NotGiven = omega arith
 
 -- ---- the line of a sector by its status, and the lines one after the other
 module _ (statuses payloads : List ℕ) (j : ℕ) where
@@ -84,7 +83,7 @@ module _ (statuses payloads : List ℕ) (j : ℕ) where
 
   pub line-long : length (lineAt statuses payloads j) ≤ 17
   unfolding lineAt
-  line-long = if-found (eqb (getD statuses j 0) 1) j (xorOf (take 256 (drop (256 * j) payloads)))
+  line-long = line-short j (standing payloads statuses j)
 
 pub lines-none : (statuses payloads out : List ℕ) (at : ℕ) → Put out at (lines 0 statuses payloads) out at
 unfolding joined

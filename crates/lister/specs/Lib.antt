@@ -1,3 +1,3 @@
 pub mod Envelope
 pub mod Listing
-pub mod Lines
+pub mod Inside

@@ -1,55 +1,34 @@
 -- What the ring lister prints, byte for byte (ASCII).
 use Prim.Native.Nat.{ℕ}
 use mathlib.Core.List.{List, [], _∷_, _++_}
-use lib.Dec.{eqb, leb}
+use lib.Dec.{ltb}
 use lib.ListN.{length, drop}
-use Rattle.base.specs.Choice.{pick}
 use Rattle.base.specs.Lists.{joined, xorOf, countOf}
-use Rattle.base.specs.Refusals.{noRoom}
+use Rattle.base.specs.Refusals.{noRoom, _when_, refusal, unless}
+use Rattle.base.specs.Words.{ascii}
 use Rattle.geometry.specs.Zones.{sectorsOf}
-use Rattle.track_read.specs.Reading.{Reading, readSector, readStatuses}
+use Rattle.track_read.specs.Reading.{Handed, Given, NotGiven, readSector, readStatuses}
 use Rattle.page_text.specs.Numerals.{decimal, decimalOf, hexOf}
-use Rattle.lister.specs.Envelope.{trackIn, startIn, ringIn, unlessRefused}
+use Rattle.lister.specs.Envelope.{trackIn, startIn, ringIn, inputRefusal}
 use Rattle.lister.specs.declared.Listed.{Listed}
 use Rattle.lister.specs.declared.Listed.the-variants.{Written, Refused}
-
--- the words of the lines
-abbrev pub newline : List ℕ
-newline = 0x0A ∷ []
-
-abbrev pub wordTrack : List ℕ  -- "track "
-wordTrack = 0x74 ∷ 0x72 ∷ 0x61 ∷ 0x63 ∷ 0x6B ∷ 0x20 ∷ []
-
-abbrev pub wordFound : List ℕ  -- " found "
-wordFound = 0x20 ∷ 0x66 ∷ 0x6F ∷ 0x75 ∷ 0x6E ∷ 0x64 ∷ 0x20 ∷ []
-
-abbrev pub wordOf : List ℕ  -- " of "
-wordOf = 0x20 ∷ 0x6F ∷ 0x66 ∷ 0x20 ∷ []
-
-abbrev pub wordSector : List ℕ  -- "sector "
-wordSector = 0x73 ∷ 0x65 ∷ 0x63 ∷ 0x74 ∷ 0x6F ∷ 0x72 ∷ 0x20 ∷ []
-
-abbrev pub wordSum : List ℕ  -- " sum "
-wordSum = 0x20 ∷ 0x73 ∷ 0x75 ∷ 0x6D ∷ 0x20 ∷ []
-
-abbrev pub wordRefused : List ℕ  -- "refused "
-wordRefused = 0x72 ∷ 0x65 ∷ 0x66 ∷ 0x75 ∷ 0x73 ∷ 0x65 ∷ 0x64 ∷ 0x20 ∷ []
 
 -- the first line: track, number found, sector count, in decimal
 unfoldable pub headLine : ℕ → ℕ → ℕ → List ℕ
 headLine track found count =
-    wordTrack ++ (decimal track ++ (wordFound ++ (decimal found ++ (wordOf ++ (decimal count ++ newline)))))
+    ascii "track " ++ (decimal track ++ (ascii " found " ++ (decimal found ++ (ascii " of " ++ (decimal count ++ ascii "\n")))))
 
 -- a found sector: its number in two decimal digits, the xor of its payload in two capital hex digits
 unfoldable pub sectorLine : ℕ → ℕ → List ℕ
-sectorLine sector sum = wordSector ++ (decimalOf 2 sector ++ (wordSum ++ (hexOf 2 sum ++ newline)))
+sectorLine sector sum = ascii "sector " ++ (decimalOf 2 sector ++ (ascii " sum " ++ (hexOf 2 sum ++ ascii "\n")))
 
 unfoldable pub refusedLine : ℕ → List ℕ
-refusedLine n = wordRefused ++ (decimal n ++ newline)
+refusedLine n = ascii "refused " ++ (decimal n ++ ascii "\n")
 
--- the line of a sector, none where it is missing
-abbrev pub lineOf : ℕ → Reading → List ℕ
-lineOf j reading = pick (eqb (reading .status) 1) (sectorLine j (xorOf (reading .payload))) []
+-- the line of a sector, none where it is not given
+abbrev pub lineOf : ℕ → Handed → List ℕ
+lineOf j (Given bytes) = sectorLine j (xorOf bytes)
+lineOf j NotGiven = []
 
 -- the lines of a ring, and what is printed for an input
 unfoldable pub ringLines : List ℕ → ℕ → ℕ → List ℕ
@@ -58,11 +37,23 @@ ringLines ring track start =
     ++ joined (sectorsOf track) (λ j. lineOf j (readSector ring track start j))
 
 unfoldable pub listing : List ℕ → List ℕ
-listing input = unlessRefused input refusedLine (ringLines (ringIn input) (trackIn input) (startIn input))
+listing input = unless (inputRefusal input) refusedLine (ringLines (ringIn input) (trackIn input) (startIn input))
 
--- `list_ring` needs room for the longest listing, 382 bytes, whatever it lists
+-- ---- `list_ring`
+-- it needs room for the longest listing, whatever it lists: a first line of 25 bytes, and 17 for each of 21 sectors
+abbrev pub longestListing : ℕ
+longestListing = 382
+
+abbrev pub outRefusal : List ℕ → ℕ
+outRefusal out = refusal (noRoom when ltb (length out) longestListing ∷ [])
+
 unfoldable pub listed : List ℕ → List ℕ → Listed
-listed input out = pick (leb 382 (length out)) (Written (length (listing input))) (Refused noRoom)
+listed input out = unless (outRefusal out) Refused (Written (length (listing input)))
 
 unfoldable pub outAfter : List ℕ → List ℕ → List ℕ
-outAfter input out = pick (leb 382 (length out)) (listing input ++ drop (length (listing input)) out) out
+outAfter input out = unless (outRefusal out) (λ n. out) (listing input ++ drop (length (listing input)) out)
+
+-- the number of an answer: 0 where the listing was written
+abbrev pub listedNumber : Listed → ℕ
+listedNumber (Written n) = 0
+listedNumber (Refused number) = number

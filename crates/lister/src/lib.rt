@@ -6,9 +6,10 @@ ghost use lib.ListN.{length};
 ghost use Rattle.geometry.specs.Zones.{sectorsOf};
 ghost use Rattle.page_text.specs.Numerals.{decimal};
 ghost use Rattle.page_text.specs.Put.{Put};
-ghost use Rattle.lister.specs.Envelope.{isEnvelope, longestRing};
-ghost use Rattle.lister.specs.Listing.{headLine, sectorLine, refusedLine, ringLines, listing, listed, outAfter};
-ghost use Rattle.lister.specs.Lines.{lineAt, lines};
+ghost use Rattle.lister.specs.Envelope.{isEnvelope, longestListed};
+ghost use Rattle.lister.specs.Listing.{headLine, sectorLine, refusedLine, ringLines, listing};
+ghost use Rattle.lister.specs.Listing.{longestListing, outRefusal, listed, outAfter, listedNumber};
+ghost use Rattle.lister.specs.Inside.{lineAt, lines};
 use track_read::TrackRead;
 
 // What listing answers: how many bytes are written, or a refusal number.
@@ -87,7 +88,7 @@ fn put_sector(out: &mut [u8], at: usize, sector: u8, statuses: &[u8], payloads: 
     ensures { λ r. ⌜ Put (now (out .entry)) at (lineAt (now (statuses .entry)) (now (payloads .entry)) sector) (now (out .exit)) r ⌝ }
 {
     let j = sector as usize;
-    if statuses[j] != 1 {
+    if statuses[j] != track_read::HANDED_OUT {
         return at;
     }
     let from = 256 * j;
@@ -112,7 +113,7 @@ fn put_sectors(out: &mut [u8], at: usize, count: u8, statuses: &[u8], payloads: 
 
 // The lines of a track that was read: how many sectors were found, their statuses and payloads.
 fn put_track(out: &mut [u8], track: u8, found: usize, statuses: &[u8], payloads: &[u8]) -> usize
-    requires { ⌜ 382 ≤ length (now out) ⌝ }
+    requires { ⌜ longestListing ≤ length (now out) ⌝ }
     requires { ⌜ (found ≤ 21) × (21 ≤ length (now statuses)) × (5376 ≤ length (now payloads)) ⌝ }
     ensures { λ r. ⌜ Put (now (out .entry)) 0
         (headLine track found (sectorsOf track) ++ lines (sectorsOf track) (now (statuses .entry)) (now (payloads .entry)))
@@ -125,8 +126,8 @@ fn put_track(out: &mut [u8], track: u8, found: usize, statuses: &[u8], payloads:
 
 // The lines of a ring.
 fn put_ring(out: &mut [u8], ring: &[u8], track: u8, start: usize) -> usize
-    requires { ⌜ 382 ≤ length (now out) ⌝ }
-    requires { ⌜ (0 < length (now ring)) × (length (now ring) ≤ longestRing) ⌝ }
+    requires { ⌜ longestListing ≤ length (now out) ⌝ }
+    requires { ⌜ (0 < length (now ring)) × (length (now ring) ≤ longestListed) ⌝ }
     ensures { λ r. ⌜ Put (now (out .entry)) 0 (ringLines (now (ring .entry)) track start) (now (out .exit)) r ⌝ }
 {
     let mut payloads = [0u8; 5376];
@@ -140,7 +141,7 @@ fn put_ring(out: &mut [u8], ring: &[u8], track: u8, start: usize) -> usize
 
 // The listing of an input.
 fn put_listing(out: &mut [u8], input: &[u8]) -> usize
-    requires { ⌜ 382 ≤ length (now out) ⌝ }
+    requires { ⌜ longestListing ≤ length (now out) ⌝ }
     ensures { λ r. ⌜ Put (now (out .entry)) 0 (listing (now (input .entry))) (now (out .exit)) r ⌝ }
 {
     if is_envelope(input) {
@@ -160,7 +161,8 @@ fn put_listing(out: &mut [u8], input: &[u8]) -> usize
 // whatever it lists.
 pub fn list_ring(input: &[u8], out: &mut [u8]) -> Listed
     ensures { λ r. ⌜ (r ≡ listed (now (input .entry)) (now (out .entry)))
-        × (now (out .exit) ≡ outAfter (now (input .entry)) (now (out .entry))) ⌝ }
+        × (now (out .exit) ≡ outAfter (now (input .entry)) (now (out .entry)))
+        × (listedNumber r ≡ outRefusal (now (out .entry))) ⌝ }
 {
     if out.len() < LONGEST_LISTING {
         return Listed::Refused(base::NO_ROOM);

@@ -24,7 +24,7 @@ use Rattle.scan.specs.Scan.{nextSync, recordsFrom, records}
 use Rattle.scan.proofs.StepLaws.{Step, skip, good, stepOf}
 use Rattle.scan.proofs.ScanLaws.{Every, every-map, onStep, next-yes, next-found, skip-on, good-on}
 use Rattle.scan.proofs.NextLaws.{NextIs, over, no-sync, at-sync, first-is}
-use Rattle.track_read.specs.Reading.{handedOut, firstOf}
+use Rattle.track_read.specs.Reading.{Given, firstOf, statusOf}
 use Rattle.page_slot.specs.Turn.{turnRecords}
 
 none-at : (h : ℕ) → Nothing ≡ At h → ⊥
@@ -154,19 +154,19 @@ module _ (P : SectorRecord → Type 0) where
   both (r ∷ l) m t u = (t .0, both l m (t .1) u)
 
 -- a sector that is not handed out has no record
-no-record : (P : SectorRecord → Type 0) (j : ℕ) (l : List SectorRecord) → firstOf j l .status ≢ 1 → Every (λ r. r .sector ≡ j → P r) l
+no-record : (P : SectorRecord → Type 0) (j : ℕ) (l : List SectorRecord) → statusOf (firstOf j l) ≢ 1 → Every (λ r. r .sector ≡ j → P r) l
 unfolding firstOf
 no-record P j [] n = tt
 no-record P j (r ∷ l) n = (
-  λ e. absurd (n (ap (λ (b : Bool). pick b (handedOut (r .payload)) (firstOf j l) .status) (eqb-yes (r .sector) j e))),
+  λ e. absurd (n (ap (λ (b : Bool). statusOf (pick b (Given (r .payload)) (firstOf j l))) (eqb-yes (r .sector) j e))),
   no-record P j l (go (eqb (r .sector) j) n),
 )
   where
-    go : (b : Bool) → pick b (handedOut (r .payload)) (firstOf j l) .status ≢ 1 → firstOf j l .status ≢ 1
+    go : (b : Bool) → statusOf (pick b (Given (r .payload)) (firstOf j l)) ≢ 1 → statusOf (firstOf j l) ≢ 1
     go true m e = m refl
     go false m e = m e
 
-pub only-behind : (window : List ℕ) (span track j : ℕ) → span ≤ length window → firstOf j (turnRecords window span track) .status ≢ 1
+pub only-behind : (window : List ℕ) (span track j : ℕ) → span ≤ length window → statusOf (firstOf j (turnRecords window span track)) ≢ 1
     → Every (λ r. r .sector ≡ j → 8 * span ≤ r .place) (records window track 0)
 only-behind window span track j l n =
     let s = splits (bitAt window) track (8 * span) (bits window) (omega arith) 0 in

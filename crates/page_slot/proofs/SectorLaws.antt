@@ -7,7 +7,7 @@ use Rattle.base.proofs.Tests.{eqb-yes, eqb-no}
 use Rattle.lines.specs.Line.{numberText}
 use Rattle.pages.specs.Page.{ascii, together, Page, writes}
 use Rattle.pages.proofs.PageLaws.{nothing, then}
-use Rattle.image_statuses.specs.Statuses.{ringStatuses}
+use Rattle.track_read.specs.Answers.{ringStatuses}
 use native.Mathlib.Nat.{sub-zero}
 use Rattle.page_track.specs.Tally.{tally}
 use Rattle.page_slot.specs.Turn.{turnStatuses}

@@ -8,8 +8,8 @@ use Rattle.geometry.proofs.ZoneLaws.{sectors-of}
 use Rattle.lines.specs.Line.{numberText}
 use Rattle.pages.specs.Page.{ascii, together, allOf}
 use Rattle.pages.proofs.PageLaws.{append-long, together-long, Within}
-use Rattle.image_statuses.specs.Statuses.{ringStatuses}
-use Rattle.image_statuses.proofs.StatusLaws.{ring-count}
+use Rattle.track_read.specs.Answers.{ringStatuses}
+use Rattle.track_read.proofs.StatusLaws.{ring-count}
 use Rattle.base.proofs.Picks.{pick-ind}
 use Rattle.page_text.proofs.DecimalLaws.{decimal-width}
 use Rattle.page_track.specs.Tally.{tally}

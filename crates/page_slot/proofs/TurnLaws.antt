@@ -7,10 +7,11 @@ use mathlib.Core.Bool.{Bool, true, false}
 use mathlib.Core.List.{List, [], _∷_, _++_, append-assoc, append-nil}
 use native.Mathlib.Omega.{arith}
 use lib.Dec.{eqb}
-use lib.ListN.{length, set, drop, replicate}
-use lib.Seq.{drop-length}
+use lib.ListN.{length, set, replicate, length-replicate}
+use lib.Seq.{sets}
 use Rattle.base.specs.Choice.{pick}
 use Rattle.base.specs.Lists.{tab}
+use Rattle.base.proofs.InRow.{sets-whole}
 use Rattle.base.proofs.Tests.{eqb-yes}
 use Rattle.base.proofs.Lists.{length-tab}
 use Rattle.base.proofs.Stores.{tab-put, tab-filled}
@@ -19,22 +20,22 @@ use Rattle.ring.specs.Bit.{bitAt}
 use Rattle.scan.specs.declared.SectorRecord.{SectorRecord}
 use Rattle.scan.specs.Scan.{recordsFrom}
 use Rattle.scan.proofs.NextLaws.{NextIs}
-use Rattle.track_read.specs.Reading.{Reading, handedOut, missing, firstOf}
+use Rattle.track_read.specs.Reading.{Handed, Given, NotGiven, firstOf, statusOf}
 use Rattle.track_read.proofs.Keeping.{first-other}
 use Rattle.page_slot.specs.Turn.{turnRecords, turnStatuses}
 
 -- a sector that has a record is handed out
-own : (j : ℕ) (r : SectorRecord) → r .sector ≡ j → (l : List SectorRecord) → firstOf j (l ++ (r ∷ [])) .status ≡ 1
+own : (j : ℕ) (r : SectorRecord) → r .sector ≡ j → (l : List SectorRecord) → statusOf (firstOf j (l ++ (r ∷ []))) ≡ 1
 unfolding firstOf
-own j r e [] = ap (λ (b : Bool). pick b (handedOut (r .payload)) missing .status) (eqb-yes (r .sector) j e)
+own j r e [] = ap (λ (b : Bool). statusOf (pick b (Given (r .payload)) NotGiven)) (eqb-yes (r .sector) j e)
 own j r e (q ∷ l) = go (eqb (q .sector) j) (own j r e l)
   where
-    go : (b : Bool) → firstOf j (l ++ (r ∷ [])) .status ≡ 1 → pick b (handedOut (q .payload)) (firstOf j (l ++ (r ∷ []))) .status ≡ 1
+    go : (b : Bool) → statusOf (firstOf j (l ++ (r ∷ []))) ≡ 1 → statusOf (pick b (Given (q .payload)) (firstOf j (l ++ (r ∷ [])))) ≡ 1
     go true ih = refl
     go false ih = ih
 
 abbrev statusBy : List SectorRecord → ℕ → ℕ
-statusBy done j = firstOf j done .status
+statusBy done j = statusOf (firstOf j done)
 
 -- the records `done` are passed, the scan stands at `bit`, and `part` tells of those passed
 pub record Turning (window : List ℕ) (span track : ℕ) (part : List ℕ) (bit : ℕ) : Type 0 where
@@ -44,14 +45,14 @@ pub record Turning (window : List ℕ) (span track : ℕ) (part : List ℕ) (bit
 
 module _ (window : List ℕ) (span track : ℕ) where
   pub turn-begins : (before part : List ℕ) (n : ℕ) → n ≡ length before → length before ≡ sectorsOf track
-      → part ≡ replicate n 2 ++ drop n before → Turning window span track part 0
+      → part ≡ sets before 0 (replicate n 2) → Turning window span track part 0
   unfolding firstOf
   turn-begins before part n e s f =
       record {
         done = [];
         rest = refl;
-        told = f ∙ ap (λ (k : ℕ). replicate k 2 ++ drop k before) e ∙ ap (λ (l : List ℕ). replicate (length before) 2 ++ l) (drop-length before)
-            ∙ append-nil (replicate (length before) 2)
+        told = f ∙ ap (λ (k : ℕ). sets before 0 (replicate k 2)) e
+            ∙ sets-whole (replicate (length before) 2) before (length-replicate {A = ℕ} (length before) 2)
             ∙ ap (λ (k : ℕ). replicate k 2) s ∙ tab-filled (sectorsOf track) 2;
       }
 
@@ -69,7 +70,7 @@ module _ (window : List ℕ) (span track : ℕ) where
           told = ap (λ (l : List ℕ). set l (r .sector) 1) (t .told)
               ∙ tab-put (sectorsOf track) (r .sector) 1 (statusBy (t .done)) (statusBy (t .done ++ (r ∷ []))) (i .sector)
               (own (r .sector) r refl (t .done))
-              (λ j d. ap (λ (y : Reading). y .status) (first-other j r (t .done) (λ e. d (sym e))));
+              (λ j d. ap (λ (y : Handed). statusOf y) (first-other j r (t .done) (λ e. d (sym e))));
         }
 
     pub turn-ends : recordsFrom (bitAt window) track (8 * span) bit ≡ [] → part ≡ turnStatuses window span track

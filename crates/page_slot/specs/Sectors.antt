@@ -7,7 +7,7 @@ use lib.ListN.{length, getD, take}
 use Rattle.base.specs.Choice.{pick}
 use Rattle.lines.specs.Line.{numberText}
 use Rattle.pages.specs.Page.{ascii, Text, together}
-use Rattle.image_statuses.specs.Statuses.{ringStatuses}
+use Rattle.track_read.specs.Answers.{ringStatuses}
 use Rattle.page_track.specs.Tally.{tally}
 use Rattle.page_slot.specs.Turn.{turnStatuses}
 

@@ -7,7 +7,7 @@ use Rattle.geometry.specs.Zones.{sectorsOf}
 use Rattle.ring.specs.Bit.{bitAt}
 use Rattle.scan.specs.declared.SectorRecord.{SectorRecord}
 use Rattle.scan.specs.Scan.{recordsFrom}
-use Rattle.track_read.specs.Reading.{firstOf}
+use Rattle.track_read.specs.Reading.{firstOf, statusOf}
 
 -- the records of one turn, which ends with the first `span` bytes of the window; as in any scan, a sync may end up to 15 bits past it
 abbrev pub turnRecords : List ℕ → ℕ → ℕ → List SectorRecord
@@ -15,4 +15,4 @@ turnRecords window span track = recordsFrom (bitAt window) track (8 * span) 0
 
 -- the statuses of the track's sectors among them: 1 for one that reads, 2 for one that does not
 unfoldable pub turnStatuses : List ℕ → ℕ → ℕ → List ℕ
-turnStatuses window span track = tab (sectorsOf track) (λ j. firstOf j (turnRecords window span track) .status)
+turnStatuses window span track = tab (sectorsOf track) (λ j. statusOf (firstOf j (turnRecords window span track)))

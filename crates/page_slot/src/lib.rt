@@ -34,7 +34,7 @@ pub fn turn_statuses(window: &[u8], span: usize, track: u8, part: &mut [u8])
     ensures { λ r. ⌜ now (part .exit) ≡ turnStatuses (now (window .entry)) span track ⌝ }
 {
     let count = part.len();
-    track_read::fill(part, count, track_read::MISSING);
+    base::fill(part, 0, count, track_read::MISSING);
     let end = 8 * span;
     let mut bit: usize = 0;
     'scan: loop {
@@ -115,9 +115,9 @@ fn put_read(
         × (length (now «of_window») ≡ sectorsOf track) ⌝ }
     ensures { λ r. ⌜ sheet (now (page .exit)) r ≡ writes (sheet (now (page .entry)) at) (sectorsText (now (window .entry)) span track) ⌝ }
 {
-    image_statuses::ring_statuses(&window[0..span], track, of_ring);
+    track_read::ring_statuses(&window[0..span], track, of_ring);
     turn_statuses(window, span, track, of_turn);
-    image_statuses::ring_statuses(window, track, of_window);
+    track_read::ring_statuses(window, track, of_window);
     put_found(page, at, of_ring, of_turn, of_window)
 }
 

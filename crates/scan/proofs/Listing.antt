@@ -5,16 +5,17 @@ use mathlib.Core.List.{List, [], _∷_, _++_, append-assoc, append-nil}
 use native.Mathlib.Omega.{arith}
 use lib.ListN.{length, drop, length-append, length-drop}
 use lib.Seq.{sets}
+use Rattle.base.specs.Limits.{longestRing}
 use Rattle.base.proofs.Stores.{put-many}
 use Rattle.ring.specs.Bit.{bits, bitAt}
 use Rattle.scan.specs.declared.SectorRecord.{SectorRecord}
 use Rattle.scan.specs.declared.Scanned.the-variants.{Records}
-use Rattle.scan.specs.Scan.{recordsFrom, records}
+use Rattle.scan.specs.Scan.{recordsFrom, records, mostRecords}
 use Rattle.scan.specs.Answers.{flat, payloadsOf}
-use Rattle.scan.specs.Helpers.{Listed}
+use Rattle.scan.specs.Inside.{Listed}
 use Rattle.scan.proofs.ScanLaws.{Every}
 use Rattle.scan.proofs.NextLaws.{NextIs, few-left}
-use Rattle.scan.proofs.Passing.{endOf, Sized, Passing, sets-out, passes, before-195, all-passed}
+use Rattle.scan.proofs.Passing.{endOf, Sized, Passing, sets-out, passes, before-most, all-passed}
 
 -- ---- rows and payloads of a list of records
 length-flat : (rs : List SectorRecord) → length (flat rs) ≡ 2 * length rs
@@ -66,7 +67,7 @@ module _ {ring : List ℕ} {track start : ℕ} {rows₀ payloads₀ rows payload
   payloads-long : length (payloadsOf (i .done)) ≡ 256 * n
   payloads-long = length-payloads (i .done) (i .passed .sized) ∙ ap (λ (y : ℕ). 256 * y) (sym (i .count))
 
-  pub few : length ring ≤ 65535 → n ≤ 195
+  pub few : length ring ≤ longestRing → n ≤ mostRecords
   few h = omega (arith, few-left ring track start bit (i .done) h (i .passed .rest), i .count)
 
   -- the lists keep their lengths
@@ -83,16 +84,16 @@ module _ {ring : List ℕ} {track start : ℕ} {rows₀ payloads₀ rows payload
       ap length (i .packed) ∙ length-append (payloadsOf (i .done)) (drop (256 * n) payloads₀)
       ∙ omega (arith, payloads-long, length-drop (256 * n) payloads₀)
 
-  module _ (small : length ring ≤ 65535) (r : SectorRecord) (next : NextIs (bitAt ring) track (endOf ring start) bit r) where
+  module _ (small : length ring ≤ longestRing) (r : SectorRecord) (next : NextIs (bitAt ring) track (endOf ring start) bit r) where
     -- there is room for a row more
-    pub one-more : n < 195
-    one-more = omega (arith, before-195 (i .passed) small r next, i .count)
+    pub one-more : n < mostRecords
+    one-more = omega (arith, before-most (i .passed) small r next, i .count)
 
-    pub lists : 390 ≤ length rows₀ → 49920 ≤ length payloads₀
+    pub lists : 2 * mostRecords ≤ length rows₀ → 256 * mostRecords ≤ length payloads₀
         → Listing ring track start rows₀ payloads₀ (sets rows (2 * n) (r .sector ∷ r .place ∷ [])) (sets payloads (256 * n) (r .payload))
         (r .place + 2600) (n + 1)
     lists h k =
-        let few : n < 195 = one-more in
+        let few : n < mostRecords = one-more in
         let e : 256 * n + length (r .payload) ≡ 256 * (n + 1) = omega (arith, next .long) in
         let f : 2 * n + 2 ≡ 2 * (n + 1) = omega arith in
         record {

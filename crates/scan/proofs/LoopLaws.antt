@@ -18,7 +18,7 @@ use Rattle.scan_visit.specs.declared.DataBlock.{DataBlock}
 use Rattle.scan_sync.specs.Sync.{syncEnd}
 use Rattle.scan_visit.specs.Visit.{DataFound, BadData, AnotherHeader, GoodData, HeaderFound, BadHeader, TrueHeader}
 use Rattle.scan_visit.specs.Visit.{FalseData, OtherMarker, at, payloadIn, byData, headerMark, byHeader, dataAt, bySync, dataFor, visit}
-use Rattle.scan.specs.Scan.{recordsFrom}
+use Rattle.scan.specs.Scan.{pastEnd, aRecord, recordsFrom}
 use Rattle.scan_visit.specs.Answers.{headerAnswer, dataAnswer}
 use Rattle.scan_visit.proofs.VisitLaws.{header→}
 use Rattle.scan.proofs.StepLaws.{Step, skip, good, stepData, stepHeader, stepOf}
@@ -89,18 +89,18 @@ module _ (h s : ℕ) (o : DataBlock) where
   other-data d (GoodData a p) w e v = absurd (another-good (sym (said e v)))
 
   good-data : (d : ℕ) (f : DataFound) → Placed d f → o ≡ dataAnswer f → o .verdict ≡ Good → stepData h s f ≡ good
-      (record { sector = s; place = d; payload = o .payload })
+      (aRecord s d (o .payload))
   good-data d (BadData fault) w e v = absurd (bad-good (said e v))
   good-data d (AnotherHeader a) w e v = absurd (another-good (said e v))
   good-data d (GoodData a p) w e v =
-      ap₂ (λ (y : ℕ) (q : List ℕ). good (record { sector = s; place = y; payload = q })) w (sym (ap (λ (y : DataBlock). y .payload) e))
+      ap₂ (λ (y : ℕ) (q : List ℕ). good (aRecord s y q)) w (sym (ap (λ (y : DataBlock). y .payload) e))
 
 -- ---- a turn at scan bit b
 module _ (x : ℕ → ℕ) (track end b : ℕ) (l : b < end) where
-  pub stops : syncEnd x b (end + 16 - b) ≡ Nothing → recordsFrom x track end b ≡ []
+  pub stops : syncEnd x b (end + pastEnd - b) ≡ Nothing → recordsFrom x track end b ≡ []
   stops e = no-sync x track end b (next-yes x end b l ∙ e)
 
-  module _ (h : ℕ) (e : syncEnd x b (end + 16 - b) ≡ At h) where
+  module _ (h : ℕ) (e : syncEnd x b (end + pastEnd - b) ≡ At h) where
     goes : (v : Step) → stepOf (visit x track h) ≡ v → recordsFrom x track end b ≡ onStep v (recordsFrom x track end)
     goes v w = at-sync x track end b h (next-yes x end b l ∙ e) ∙ ap (λ (s : Step). onStep s (recordsFrom x track end)) w
 
@@ -122,6 +122,6 @@ module _ (x : ℕ → ℕ) (track end b : ℕ) (l : b < end) where
         other-header v = goes (skip (d + 1)) (at-data ∙ other-data h s o d (dataAt x d) (data-placed x d) g v)
 
         pub good-block : o .verdict ≡ Good
-            → recordsFrom x track end b ≡ record { sector = s; place = d; payload = o .payload } ∷ recordsFrom x track end (d + 2600)
-        good-block v = goes (good (record { sector = s; place = d; payload = o .payload })) (at-data ∙ good-data h s o d (dataAt x d)
+            → recordsFrom x track end b ≡ aRecord s d (o .payload) ∷ recordsFrom x track end (d + 2600)
+        good-block v = goes (good (aRecord s d (o .payload))) (at-data ∙ good-data h s o d (dataAt x d)
             (data-placed x d) g v)

@@ -1,13 +1,14 @@
 -- The records of a scan one by one: what the next one, or none, says of those that are left.
 --     over                    past the end of the scan
 --     next-some, next-none    by the answer that `next_record` gives
---     few-left                a caller that counts: at most 195 in all
+--     few-left                a caller that counts: at most `mostRecords` in all
 use Prim.Native.Nat.{ℕ, zero, suc, _+_, _-_, _*_, _%_, _≤_, _<_}
 use mathlib.Core.Path.{_≡_, refl, sym, ap, _∙_, subst}
 use mathlib.Core.Bool.{true, false}
 use mathlib.Core.List.{List, [], _∷_, _++_}
 use native.Mathlib.Omega.{arith}
 use lib.ListN.{length, getD, length-append}
+use Rattle.base.specs.Limits.{longestRing}
 use Rattle.base.proofs.Lists.{length-tab, getD-tab}
 use Rattle.geometry.specs.Zones.{sectorsOf}
 use Rattle.gcr.proofs.DecodeLaws.{byteAt}
@@ -17,7 +18,7 @@ use Rattle.scan_sync.specs.declared.SyncEnd.the-variants.{At, Nothing}
 use Rattle.scan.specs.declared.SectorRecord.{SectorRecord}
 use Rattle.scan.specs.declared.NextRecord.{NextRecord}
 use Rattle.scan_visit.specs.Visit.{visit}
-use Rattle.scan.specs.Scan.{nextSync, recordsOf, recordsFrom, records}
+use Rattle.scan.specs.Scan.{nextSync, recordsOf, recordsFrom, records, mostRecords}
 use Rattle.scan.specs.Answers.{nextOf}
 use Rattle.scan.proofs.StepLaws.{Step, skip, good, stepHeader, stepOf, Good, visit-good}
 use Rattle.scan.proofs.ScanLaws.{found-sync, next-found, visits-end, visits-none, visits-turn, onStep, one-step, skip-on, good-on}
@@ -138,10 +139,10 @@ module _ (x : ℕ → ℕ) (track end : ℕ) where
         by [] q = refl
         by (r ∷ rs) q = absurd (let u : true ≡ false = sym (found-in (r ∷ rs) q) ∙ t in let z : _≡_ {A = ℕ} 0 1 = cc in omega arith)
 
--- ---- a caller that counts: those done and those left are at most 195
-pub few-left : (ring : List ℕ) (track start b : ℕ) (done : List SectorRecord) → length ring ≤ 65535
+-- ---- a caller that counts: those done and those left are at most `mostRecords`
+pub few-left : (ring : List ℕ) (track start b : ℕ) (done : List SectorRecord) → length ring ≤ longestRing
     → done ++ recordsFrom (bitAt ring) track (start % bits ring + bits ring) b ≡ records ring track start
-    → length done + length (recordsFrom (bitAt ring) track (start % bits ring + bits ring) b) ≤ 195
+    → length done + length (recordsFrom (bitAt ring) track (start % bits ring + bits ring) b) ≤ mostRecords
 few-left ring track start b done h e =
     omega (
       arith,

@@ -4,9 +4,10 @@ use mathlib.Core.Path.{_≡_, refl, sym, ap, _∙_}
 use mathlib.Core.List.{List, [], _∷_, _++_, append-assoc, append-nil}
 use native.Mathlib.Omega.{arith}
 use lib.ListN.{length}
+use Rattle.base.specs.Limits.{longestRing}
 use Rattle.ring.specs.Bit.{bits, bitAt}
 use Rattle.scan.specs.declared.SectorRecord.{SectorRecord}
-use Rattle.scan.specs.Scan.{recordsFrom, records}
+use Rattle.scan.specs.Scan.{recordsFrom, records, mostRecords}
 use Rattle.scan.proofs.ScanLaws.{Every}
 use Rattle.scan.proofs.NextLaws.{NextIs, few-left}
 
@@ -41,9 +42,9 @@ module _ {ring : List ℕ} {track start bit : ℕ} {done : List SectorRecord} (p
             ∙ ap (λ (rs : List SectorRecord). done ++ rs) (sym (i .left)) ∙ p .rest;
       }
 
-  -- there are at most 195
-  pub before-195 : length ring ≤ 65535 → (r : SectorRecord) → NextIs (bitAt ring) track (endOf ring start) bit r → length done < 195
-  before-195 h r i = omega (arith, few-left ring track start bit done h (p .rest), ap length (i .left))
+  -- there are at most `mostRecords`
+  pub before-most : length ring ≤ longestRing → (r : SectorRecord) → NextIs (bitAt ring) track (endOf ring start) bit r → length done < mostRecords
+  before-most h r i = omega (arith, few-left ring track start bit done h (p .rest), ap length (i .left))
 
   -- none is left
   pub all-passed : recordsFrom (bitAt ring) track (endOf ring start) bit ≡ [] → done ≡ records ring track start

@@ -1,18 +1,19 @@
 -- The refusals of a scan, test by test.
-use Prim.Native.Nat.{ℕ, _≤_, _<_}
-use mathlib.Core.Path.{_≡_, ap, ap₂}
-use mathlib.Core.Logic.{_⊎_, inl, inr}
+use Prim.Native.Nat.{ℕ, _*_, _≤_, _<_}
+use mathlib.Core.Path.{_≡_, sym, ap, ap₂}
+use mathlib.Core.Logic.{_≢_, _⊎_, inl, inr}
 use mathlib.Core.Bool.{Bool, true, false, _&&_}
-use mathlib.Core.List.{List}
-use lib.Dec.{eqb, ltb, leb}
+use mathlib.Core.List.{List, [], _∷_}
+use lib.Dec.{ltb, leb}
 use lib.ListN.{length}
-use native.Mathlib.Omega.{arith}
-use Rattle.base.specs.Refusals.{ringEmpty, ringTooLong, noRoom}
-use Rattle.base.proofs.Tests.{eqb-yes, eqb-no, ltb-yes, ltb-no, leb-yes, leb-no}
-use Rattle.ring.specs.Bit.{IsRing}
-use Rattle.scan.specs.Scan.{records}
-use Rattle.scan.specs.Answers.{scanned, rowsAfter, payloadsAfter}
-use Rattle.scan.specs.Helpers.{Listed}
+use Rattle.base.specs.Limits.{longestRing}
+use Rattle.base.specs.Refusals.{noRoom, tooManyRecords, _when_}
+use Rattle.base.proofs.Tests.{ltb-no, leb-yes, leb-no}
+use Rattle.ring.specs.Bit.{IsRing, ringRefusal}
+use Rattle.ring.proofs.RingRefusals.{unless-some, no-refusal, ring-refused}
+use Rattle.scan.specs.Scan.{records, mostRecords}
+use Rattle.scan.specs.Answers.{scanRefusal, roomToScan, scanned, rowsAfter, payloadsAfter}
+use Rattle.scan.specs.Inside.{Listed}
 use Rattle.scan.specs.declared.Scanned.{Scanned}
 use Rattle.scan.specs.declared.Scanned.the-variants.{Refused}
 use Rattle.scan.proofs.ScanLaws.{few-records}
@@ -25,12 +26,17 @@ pub short : (a m b n : ℕ) → (m < a) ⊎ ((a ≤ m) × (n < b)) → leb a m &
 short a m b n (inl h) = ap (λ (s : Bool). s && leb b n) (leb-no a m h)
 short a m b n (inr (h, k)) = ap₂ (λ (s t : Bool). s && t) (leb-yes a m h) (leb-no b n k)
 
--- a ring that is taken: not empty, not too long, and its records are at most 195
-pub none-empty : (ring : List ℕ) → 0 < length ring → eqb (length ring) 0 ≡ false
-none-empty ring h = eqb-no (length ring) 0 (λ z. omega arith)
+-- ---- the ring: refused by its own number, or taken, since its records are not too many
+pub few-enough : (ring : List ℕ) (track start : ℕ) → length ring ≤ longestRing → ltb mostRecords (length (records ring track start)) ≡ false
+few-enough ring track start h = ltb-no mostRecords (length (records ring track start)) (few-records ring track start h)
 
-pub few-enough : (ring : List ℕ) (track start : ℕ) → length ring ≤ 65535 → ltb 195 (length (records ring track start)) ≡ false
-few-enough ring track start h = ltb-no 195 (length (records ring track start)) (few-records ring track start h)
+module _ (enough : Bool) (e : enough ≡ true) (ring : List ℕ) (track start : ℕ) where
+  pub no-ring : (number : ℕ) → number ≡ ringRefusal (length ring) → number ≢ 0 → number ≡ scanRefusal enough ring track start
+  no-ring number n z =
+      rw e (sym (ring-refused (length ring) number (tooManyRecords when ltb mostRecords (length (records ring track start)) ∷ []) n z))
+
+  pub is-taken : IsRing ring → scanRefusal enough ring track start ≡ 0
+  is-taken r = rw (e, few-enough ring track start (r .small)) (no-refusal ring r)
 
 -- ---- `scan_sector_records`
 module _ (ring : List ℕ) (track start : ℕ) (rows payloads : List ℕ) where
@@ -39,26 +45,23 @@ module _ (ring : List ℕ) (track start : ℕ) (rows payloads : List ℕ) where
       (r ≡ scanned ring track start rows payloads) × (rs ≡ rowsAfter ring track start rows payloads) × (ps ≡ payloadsAfter ring track
       start rows payloads)
 
-  pub scan-short : (length rows < 390) ⊎ ((390 ≤ length rows) × (length payloads < 49920)) → ScanOut (Refused noRoom) rows payloads
+  pub scan-short : (length rows < 2 * mostRecords) ⊎ ((2 * mostRecords ≤ length rows) × (length payloads < 256 * mostRecords))
+      → ScanOut (Refused noRoom) rows payloads
   unfolding scanned rowsAfter payloadsAfter
-  scan-short h = let e = short 390 (length rows) 49920 (length payloads) h in (rw e, rw e, rw e)
+  scan-short h = let e = short (2 * mostRecords) (length rows) (256 * mostRecords) (length payloads) h in (rw e, rw e, rw e)
 
-  module _ (h : 390 ≤ length rows) (k : 49920 ≤ length payloads) where
-    pub scan-empty : length ring ≡ 0 → ScanOut (Refused ringEmpty) rows payloads
-    unfolding scanned rowsAfter payloadsAfter
-    scan-empty l = let e = room 390 (length rows) 49920 (length payloads) h k in let z = eqb-yes (length ring) 0 l in
-        (rw (e, z), rw (e, z), rw (e, z))
+  module _ (h : 2 * mostRecords ≤ length rows) (k : 256 * mostRecords ≤ length payloads) where
+    roomy : roomToScan rows payloads ≡ true
+    roomy = room (2 * mostRecords) (length rows) (256 * mostRecords) (length payloads) h k
 
-    pub scan-long : 65535 < length ring → ScanOut (Refused ringTooLong) rows payloads
+    pub scan-refused : (number : ℕ) → number ≡ ringRefusal (length ring) → number ≢ 0 → ScanOut (Refused number) rows payloads
     unfolding scanned rowsAfter payloadsAfter
-    scan-long l = let e = room 390 (length rows) 49920 (length payloads) h k in let z = none-empty ring (omega arith) in let t = ltb-yes
-        65535 (length ring) l in (rw (e, z, t), rw (e, z, t), rw (e, z, t))
+    scan-refused number n z =
+        let e = no-ring (roomToScan rows payloads) roomy ring track start number n z in
+        (sym (unless-some _ number _ _ e z), sym (unless-some _ number _ _ e z), sym (unless-some _ number _ _ e z))
 
     pub scan-goes : IsRing ring → (r : Scanned) (rs ps : List ℕ) → Listed (records ring track start) rows payloads rs ps r → ScanOut r rs ps
     unfolding scanned rowsAfter payloadsAfter
     scan-goes l r rs ps o =
-        let e = room 390 (length rows) 49920 (length payloads) h k in
-        let z = none-empty ring (l .some) in
-        let t = ltb-no 65535 (length ring) (l .small) in
-        let f = few-enough ring track start (l .small) in
-        (rw (e, z, t, f) (o .count), rw (e, z, t, f) (o .laid), rw (e, z, t, f) (o .packed))
+        let e = is-taken (roomToScan rows payloads) roomy ring track start l in
+        (rw e (o .count), rw e (o .laid), rw e (o .packed))

@@ -19,6 +19,7 @@ use Rattle.scan_visit.specs.Visit.{DataFound, BadData, AnotherHeader, GoodData,
 use Rattle.scan_visit.specs.Visit.{OtherMarker, FalseData}
 use Rattle.scan_visit.specs.Visit.{at, payloadIn, byData, headerMark, dataAt, bySync, dataFor, byHeader, visit}
 use Rattle.scan.specs.declared.SectorRecord.{SectorRecord}
+use Rattle.scan.specs.Scan.{aRecord}
 use Rattle.scan_visit.proofs.VisitLaws.{Header, Told, header→, header←, Data, payloadAt, data→, data←, Mark, mark→, no-mark}
 
 -- ---- what a visit comes to
@@ -29,7 +30,7 @@ pub data Step : Type 0 where
 abbrev pub stepData : ℕ → ℕ → DataFound → Step
 stepData h s (BadData fault) = skip (h + 1)
 stepData h s (AnotherHeader d) = skip (d + 1)
-stepData h s (GoodData d p) = good (record { sector = s; place = d; payload = p })
+stepData h s (GoodData d p) = good (aRecord s d p)
 
 abbrev pub stepHeader : ℕ → HeaderFound → Step
 stepHeader h (BadHeader fault) = skip (h + 1)
@@ -61,7 +62,7 @@ module _ (x : ℕ → ℕ) (track h : ℕ) where
           by-data (AnotherHeader d′) v e = absurd (let z : _≡_ {A = ℕ} 0 1 = cc in omega arith)
           by-data (GoodData d′ p) v e =
               let t : Data x d × (d′ ≡ d) × (p ≡ payloadAt x d) = data→ x d d′ p v in
-              let q : record { sector = s; place = d′; payload = p } ≡ r = cc in
+              let q : aRecord s d′ p ≡ r = cc in
               let qd : d ≡ r .place = sym (t .1) ∙ ap (λ (y : SectorRecord). y .place) q in
               record {
                 header = hd;
@@ -125,7 +126,7 @@ module _ (x : ℕ → ℕ) (track h : ℕ) where
 
   -- a visit to a good header with a good data block
   pub visit-yes : (d : ℕ) → Header x track h → syncEnd x (h + 80) 768 ≡ At d → Data x d
-      → stepOf (visit x track h) ≡ good (record { sector = byteAt x h 2; place = d; payload = payloadAt x d })
+      → stepOf (visit x track h) ≡ good (aRecord (byteAt x h 2) d (payloadAt x d))
   unfolding visit dataAt
   visit-yes d hr e dr =
       ap (stepHeader h) (header← x track h (dataFor x h) hr)

@@ -12,10 +12,10 @@ use Rattle.base.proofs.Tests.{ltb-yes}
 use Rattle.ring.specs.Bit.{IsRing, bits, bitAt}
 use Rattle.scan.specs.declared.SectorRecord.{SectorRecord}
 use Rattle.scan.specs.declared.NextRecord.{NextRecord}
-use Rattle.scan.specs.Scan.{recordsFrom, records}
+use Rattle.scan.specs.Scan.{recordsFrom, records, mostRecords}
 use Rattle.scan.specs.Answers.{nextOf}
 use Rattle.scan.proofs.NextLaws.{NextIs, next-some, next-none}
-use Rattle.scan.proofs.Passing.{endOf, Passing, sets-out, passes, before-195, all-passed}
+use Rattle.scan.proofs.Passing.{endOf, Passing, sets-out, passes, before-most, all-passed}
 use Rattle.scan.proofs.NextLaws.{few-left}
 use Rattle.scan_rows.specs.Rows.{stored, laid}
 
@@ -80,7 +80,7 @@ sets-forth ring track start next e = record { passed = sets-out ring track start
 
 module _ {ring : List ℕ} {track start bit : ℕ} {done : List SectorRecord} {next : NextRecord} (is : IsRing ring)
     (i : Laying ring track start done bit next) where
-  at-most : length done ≤ 195
+  at-most : length done ≤ mostRecords
   at-most = omega (arith, few-left ring track start bit done (is .small) (i .passed .rest))
 
   -- their number fits, and one more
@@ -91,7 +91,7 @@ module _ {ring : List ℕ} {track start bit : ℕ} {done : List SectorRecord} {n
   counted-on = omega (arith, at-most)
 
   -- there are as many rows
-  pub roomy : {m : ℕ} → 195 ≤ m → length done ≤ m
+  pub roomy : {m : ℕ} → mostRecords ≤ m → length done ≤ m
   roomy h = omega (arith, at-most)
 
   pub ends : next .found ≡ false → done ≡ records ring track start
@@ -102,8 +102,8 @@ module _ {ring : List ℕ} {track start bit : ℕ} {done : List SectorRecord} {n
     is-next = next-some (bitAt ring) track (endOf ring start) bit next (i .told) e
 
     -- and one more
-    pub inside : {m : ℕ} → 195 ≤ m → length done < m
-    inside h = omega (arith, before-195 (i .passed) (is .small) (next .row) is-next)
+    pub inside : {m : ℕ} → mostRecords ≤ m → length done < m
+    inside h = omega (arith, before-most (i .passed) (is .small) (next .row) is-next)
 
     pub place-fits : next .row .place + 2600 < 2 ^ 64
     place-fits = omega (arith, is-next .near, end-small ring start is)

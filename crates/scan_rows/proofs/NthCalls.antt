@@ -32,13 +32,14 @@ use Rattle.scan.specs.declared.Scanned.{Scanned}
 use Rattle.scan.proofs.Scanned as E
 use Rattle.scan.proofs.Scanned.Laws as E′
 use Rattle.scan_rows.specs.declared.Row.{Row}
-use Rattle.scan_rows.specs.RowAt.{zeros, rowAt}
+use Rattle.scan.specs.Scan.{zeroRecord}
+use Rattle.scan_rows.specs.Rows.{rowAt}
 use Rattle.scan_rows.specs.Answers.{scannedInto, rowsAfter}
-use Rattle.scan_rows.specs.Nth.{ofScan}
+use Rattle.scan_rows.specs.Inside.{ofScan}
 use Rattle.scan_rows.proofs.Row as Q
 use Rattle.scan_rows.proofs.Row.Laws as Q′
 use Rattle.scan_rows.proofs.Records.{R}
-use Rattle.scan_rows.proofs.zero_record as zero-record
+use Rattle.scan.proofs.zero_record as zero-record
 use Rattle.scan_rows.proofs.scan_into_rows as scan-into-rows
 use Rattle.scan_rows.proofs.read_row as read-row
 use Rattle.scan_rows.proofs.of_scan as of-scan
@@ -84,8 +85,8 @@ module _ {M : Type 1} (𝓤 : URA M) (H : Heap 𝓤) (A : Atoms 𝓤) (W : Given
   goes-zero = qed W [] ∵ nothing ! $ nothing ! $ join ! $ frame ! $ done !
 
   pub of-zero : (r : SectorRecord)
-      → ent 𝓤 (ensured 𝓤 H A zero-record.ended (zero-record.clauses 𝓤 H A mem run) tt tt tt r) (fact 𝓤 (r ≡ zeros))
-  of-zero r = exE 𝓤 _ (λ ws. snd∗ 𝓤 (sem 𝓤 H A (lasts zero-record.ended tt tt ws)) (fact 𝓤 (r ≡ zeros)))
+      → ent 𝓤 (ensured 𝓤 H A zero-record.ended (zero-record.clauses 𝓤 H A mem run) tt tt tt r) (fact 𝓤 (r ≡ zeroRecord))
+  of-zero r = exE 𝓤 _ (λ ws. snd∗ 𝓤 (sem 𝓤 H A (lasts zero-record.ended tt tt ws)) (fact 𝓤 (r ≡ zeroRecord)))
 
   -- ---- `scan_into_rows`, into rows lent for ν
   module _ (κ : Lft) (q : Share) (xr : RefT (List ℕ)) (t s₀ : ℕ) (x : RefT (List SectorRecord)) (ν : ℕ) where

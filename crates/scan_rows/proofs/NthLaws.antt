@@ -11,14 +11,14 @@ use Rattle.base.proofs.Tests.{ltb-yes, ltb-no, leb-yes, lt-of}
 use Rattle.scan.specs.declared.SectorRecord.{SectorRecord}
 use Rattle.scan.specs.declared.Scanned.{Scanned}
 use Rattle.scan.specs.declared.Scanned.the-variants.{Records, Refused}
-use Rattle.scan.specs.Scan.{records}
-use Rattle.scan.specs.Answers.{unlessRefused}
+use Rattle.base.specs.Refusals.{unless}
+use Rattle.scan.specs.Scan.{zeroRecord, records, mostRecords}
+use Rattle.scan.specs.Answers.{scanRefusal}
 use Rattle.scan_rows.specs.declared.Row.{Row}
-use Rattle.scan_rows.specs.Rows.{laid}
-use Rattle.scan_rows.specs.RowAt.{zeros, noRow, rowAt}
-use Rattle.scan_rows.specs.Answers.{refusalOf, scannedInto, rowsAfter}
-use Rattle.scan_rows.specs.Nth.{ofScan, recordsOrNone}
-use Rattle.scan_rows.proofs.Refusing.{by-tests, answer-by, rows-by}
+use Rattle.scan_rows.specs.Rows.{laid, refusedRow, noRow, rowAt}
+use Rattle.scan_rows.specs.Answers.{scannedInto, rowsAfter, nthRecord}
+use Rattle.scan_rows.specs.Inside.{refusalOf, ofScan}
+use Rattle.scan_rows.proofs.Refusing.{unless-by, the-number, answer-by, rows-by}
 
 -- ---- `of_scan`
 pub of-scan-in : (row : Row) (n : ℕ) (answer : Scanned) (count : ℕ) → answer ≡ Records count → n < count → row ≡ ofScan row n answer
@@ -26,6 +26,9 @@ of-scan-in row n answer count e h = rw (e, ltb-yes n count h)
 
 pub of-scan-past : (row : Row) (n : ℕ) (answer : Scanned) (count : ℕ) → answer ≡ Records count → count ≤ n → noRow ≡ ofScan row n answer
 of-scan-past row n answer count e h = rw (e, ltb-no n count h)
+
+pub of-scan-refused : (row : Row) (n : ℕ) (answer : Scanned) (number : ℕ) → answer ≡ Refused number → refusedRow number ≡ ofScan row n answer
+of-scan-refused row n answer number e = rw e
 
 -- ---- a row of what was laid
 in-front : (rs ys : List SectorRecord) (n : ℕ) (d : SectorRecord) → n < length rs → getD (rs ++ ys) n d ≡ getD rs n d
@@ -40,32 +43,31 @@ row-laid rs ys n = by (ltb n (length rs)) refl
     by true e = rw (
       e,
       ltb-yes n (length (laid rs ys)) (omega (arith, lt-of n (length rs) e, length-append rs (drop (length rs) ys))),
-      in-front rs (drop (length rs) ys) n zeros (lt-of n (length rs) e),
+      in-front rs (drop (length rs) ys) n zeroRecord (lt-of n (length rs) e),
     )
     by false e = rw e
 
-row-none : (n : ℕ) → noRow ≡ rowAt [] n
-row-none n = rw (ltb-no n 0 (omega arith))
-
--- ---- a scan into 195 rows
-module _ (ring : List ℕ) (track start : ℕ) (ys : List SectorRecord) (e : length ys ≡ 195) where
+-- ---- a scan into as many rows as there can be records
+module _ (ring : List ℕ) (track start : ℕ) (ys : List SectorRecord) (e : length ys ≡ mostRecords) where
   abbrev number : ℕ
   number = refusalOf (length ys) (length ring)
 
-  or-none : recordsOrNone ring track start ≡ pick (eqb number 0) (records ring track start) []
-  unfolding recordsOrNone
-  or-none =
-      ap (λ (t : Bool). unlessRefused t ring track start (λ (n : ℕ). []) (records ring track start))
-      (sym (leb-yes 195 (length ys) (omega (arith, e))))
-      ∙ by-tests ring track start ys (λ (n : ℕ). []) (records ring track start) _ _ _ refl refl refl
+  by-number : (n : ℕ) → nthRecord ring track start n ≡ pick (eqb number 0) (rowAt (records ring track start) n) (refusedRow number)
+  unfolding nthRecord
+  by-number n =
+      let roomy = sym (leb-yes mostRecords (length ys) (omega (arith, e))) in
+      ap (λ (k : ℕ). unless k refusedRow (rowAt (records ring track start) n))
+      (ap (λ (t : Bool). scanRefusal t ring track start) roomy ∙ the-number ring track start ys)
+      ∙ unless-by number refusedRow (rowAt (records ring track start) n)
 
   -- row n of the rows that it leaves, by its answer
   pub nth : (n : ℕ)
-      → ofScan (rowAt (rowsAfter ring track start ys) n) n (scannedInto ring track start ys) ≡ rowAt (recordsOrNone ring track start) n
-  nth n = rw (answer-by ring track start ys, rows-by ring track start ys, or-none) (by (eqb number 0))
+      → ofScan (rowAt (rowsAfter ring track start ys) n) n (scannedInto ring track start ys) ≡ nthRecord ring track start n
+  nth n = rw (answer-by ring track start ys, rows-by ring track start ys, by-number n) (by (eqb number 0))
     where
       by : (t : Bool)
           → ofScan (rowAt (pick t (laid (records ring track start) ys) ys) n) n
-          (pick t (Records (length (records ring track start))) (Refused number)) ≡ rowAt (pick t (records ring track start) []) n
+          (pick t (Records (length (records ring track start))) (Refused number))
+          ≡ pick t (rowAt (records ring track start) n) (refusedRow number)
       by true = row-laid (records ring track start) ys n
-      by false = row-none n
+      by false = refl

@@ -1,27 +1,31 @@
--- What a scan into rows answers and leaves. It needs 195 rows, whatever it finds.
+-- What a scan into rows answers and leaves. It needs room for the most records, whatever it finds.
 use Prim.Native.Nat.{ℕ}
+use mathlib.Core.Bool.{true}
 use mathlib.Core.List.{List}
-use lib.Dec.{eqb, ltb, leb}
+use lib.Dec.{leb}
 use lib.ListN.{length}
-use Rattle.base.specs.Choice.{pick}
-use Rattle.base.specs.Refusals.{ringEmpty, ringTooLong, noRoom}
+use Rattle.base.specs.Refusals.{unless}
 use Rattle.scan.specs.declared.SectorRecord.{SectorRecord}
 use Rattle.scan.specs.declared.Scanned.{Scanned}
 use Rattle.scan.specs.declared.Scanned.the-variants.{Records, Refused}
-use Rattle.scan.specs.Scan.{records}
-use Rattle.scan.specs.Answers.{unlessRefused}
-use Rattle.scan_rows.specs.Rows.{laid}
+use Rattle.scan.specs.Scan.{records, mostRecords}
+use Rattle.scan.specs.Answers.{scanRefusal}
+use Rattle.scan_rows.specs.declared.Row.{Row}
+use Rattle.scan_rows.specs.Rows.{laid, refusedRow, rowAt}
+
+-- the refusals of a scan into rows: those of a scan
+abbrev pub rowsRefusal : List ℕ → ℕ → ℕ → List SectorRecord → ℕ
+rowsRefusal ring track start rows = scanRefusal (leb mostRecords (length rows)) ring track start
 
 -- the number of records, or a refusal number
 unfoldable pub scannedInto : List ℕ → ℕ → ℕ → List SectorRecord → Scanned
 scannedInto ring track start rows =
-    unlessRefused (leb 195 (length rows)) ring track start Refused (Records (length (records ring track start)))
+    unless (rowsRefusal ring track start rows) Refused (Records (length (records ring track start)))
 
 -- the rows afterwards: all as lent where the scan is refused
 unfoldable pub rowsAfter : List ℕ → ℕ → ℕ → List SectorRecord → List SectorRecord
-rowsAfter ring track start rows =
-    unlessRefused (leb 195 (length rows)) ring track start (λ n. rows) (laid (records ring track start) rows)
+rowsAfter ring track start rows = unless (rowsRefusal ring track start rows) (λ n. rows) (laid (records ring track start) rows)
 
--- a refusal by the numbers of rows and of ring bytes alone, or 0: no ring has more than 195 records
-abbrev pub refusalOf : ℕ → ℕ → ℕ
-refusalOf rows bytes = pick (leb 195 rows) (pick (eqb bytes 0) ringEmpty (pick (ltb 65535 bytes) ringTooLong 0)) noRoom
+-- record n of a scan, by a function that lends the rows itself
+unfoldable pub nthRecord : List ℕ → ℕ → ℕ → ℕ → Row
+nthRecord ring track start n = unless (scanRefusal true ring track start) refusedRow (rowAt (records ring track start) n)

@@ -1,4 +1,3 @@
 pub mod Rows
 pub mod Answers
-pub mod RowAt
-pub mod Nth
+pub mod Inside

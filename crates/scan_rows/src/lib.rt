@@ -1,16 +1,14 @@
-// Sector records as a lent list of structs: row n is stored by a thin function, and a scan fills the rows by it.
-// One row of a lent list of sector records, read by its number; and record n of a scan, for callers that hold no list.
+// Sector records as a lent list of structs: row n stored and read by thin functions, and a scan that fills the rows.
 ghost use mathlib.Core.Path.{_≡_};
 ghost use Prim.Native.Nat.{_≤_};
 ghost use lib.ListN.{length};
 ghost use Rattle.ring.specs.Bit.{IsRing};
-ghost use Rattle.scan.specs.Scan.{records};
-ghost use Rattle.scan_rows.specs.Rows.{hasRow, stored, laid};
-ghost use Rattle.scan_rows.specs.Answers.{refusalOf, scannedInto, rowsAfter};
+ghost use Rattle.scan.specs.Scan.{records, mostRecords};
+ghost use Rattle.scan_rows.specs.Rows.{hasRow, stored, laid, aRow, noRow, refusedRow, rowAt};
+ghost use Rattle.scan_rows.specs.Answers.{scannedInto, rowsAfter, nthRecord};
+ghost use Rattle.scan_rows.specs.Inside.{refusalOf, ofScan};
 use scan::Scanned;
 use scan::SectorRecord;
-ghost use Rattle.scan_rows.specs.RowAt.{zeros, rowAt, aRow, noRow};
-ghost use Rattle.scan_rows.specs.Nth.{ofScan, recordsOrNone};
 
 // Row n becomes `row`, and the other rows stay; the answer is whether there is a row n, and where there is none all rows stay.
 pub fn store_row(rows: &mut [SectorRecord], n: usize, row: SectorRecord) -> bool
@@ -27,21 +25,15 @@ pub fn store_row(rows: &mut [SectorRecord], n: usize, row: SectorRecord) -> bool
 fn refusal(rows: usize, bytes: usize) -> u8
     ensures { λ r. ⌜ r ≡ refusalOf rows bytes ⌝ }
 {
-    if rows < 195 {
+    if rows < scan::MOST_RECORDS {
         return base::NO_ROOM;
     }
-    if bytes == 0 {
-        return base::RING_EMPTY;
-    }
-    if base::MAX_RING < bytes {
-        return base::RING_TOO_LONG;
-    }
-    0
+    ring::refusal_of(bytes)
 }
 
 // The records of one revolution from `start_bit` on, in rows from the first on; the answer is how many there are.
 fn list_rows(ring: &[u8], track: u8, start_bit: usize, rows: &mut [SectorRecord]) -> usize
-    requires { ⌜ (IsRing (now ring)) × (195 ≤ length (now rows)) ⌝ }
+    requires { ⌜ (IsRing (now ring)) × (mostRecords ≤ length (now rows)) ⌝ }
     ensures { λ r. ⌜ (r ≡ length (records (now (ring .entry)) track «start_bit»))
         × (now (rows .exit) ≡ laid (records (now (ring .entry)) track «start_bit») (now (rows .entry))) ⌝ }
 {
@@ -58,7 +50,8 @@ fn list_rows(ring: &[u8], track: u8, start_bit: usize, rows: &mut [SectorRecord]
     n
 }
 
-// The sector records of a ring, one revolution from `start_bit` on, in a lent list of records. Room for 195 is needed, whatever is found.
+// The sector records of a ring, one revolution from `start_bit` on, in a lent list of records. Room for the most records is
+// needed, whatever is found.
 pub fn scan_into_rows(
     ring: &[u8],
     track: u8,
@@ -76,9 +69,11 @@ pub fn scan_into_rows(
     }
 }
 
-// A row that was asked for, if there is one; where there is none the row is zeros.
+// A row that was asked for, if there is one; where there is none the row is zeros, and the number is that of the refusal, if
+// there was one, else 0.
 pub struct Row {
     pub found: bool,
+    pub number: u8,
     pub row: SectorRecord,
 }
 
@@ -87,28 +82,26 @@ fn a_row(row: SectorRecord) -> Row
 {
     Row {
         found: true,
+        number: 0,
         row: row,
     }
 }
 
-fn zero_record() -> SectorRecord
-    ensures { λ r. ⌜ r ≡ zeros ⌝ }
+fn refused_row(number: u8) -> Row
+    ensures { λ r. ⌜ r ≡ refusedRow number ⌝ }
 {
-    SectorRecord {
-        sector: 0,
-        place: 0,
-        payload: [0u8; 256],
+    let row = scan::zero_record();
+    Row {
+        found: false,
+        number: number,
+        row: row,
     }
 }
 
 fn no_row() -> Row
     ensures { λ r. ⌜ r ≡ noRow ⌝ }
 {
-    let row = zero_record();
-    Row {
-        found: false,
-        row: row,
-    }
+    refused_row(0)
 }
 
 // Row n, where there is one.
@@ -122,25 +115,27 @@ pub fn read_row(rows: &[SectorRecord], n: usize) -> Row
     }
 }
 
-// Row n of a scan that gave this answer: no row where the scan was refused, or past its last record.
+// Row n of a scan that gave this answer: none past its last record, and none where it was refused.
 fn of_scan(row: Row, n: usize, answer: Scanned) -> Row
     ensures { λ r. ⌜ r ≡ ofScan row n answer ⌝ }
 {
-    let Scanned::Records(count) = answer else {
-        return no_row();
-    };
-    if n < count {
-        return row;
+    match answer {
+        Scanned::Records(count) => {
+            if n < count {
+                return row;
+            }
+            no_row()
+        }
+        Scanned::Refused(number) => refused_row(number),
     }
-    no_row()
 }
 
-// Record n of a scan, where there is one: for callers that hold no list of records.
+// Record n of a scan, where there is one, or the scan's refusal: for callers that hold no list of records.
 pub fn nth_record(ring: &[u8], track: u8, start_bit: usize, n: usize) -> Row
-    ensures { λ r. ⌜ r ≡ rowAt (recordsOrNone (now (ring .entry)) track «start_bit») n ⌝ }
+    ensures { λ r. ⌜ r ≡ nthRecord (now (ring .entry)) track «start_bit» n ⌝ }
 {
-    let zeros = zero_record();
-    let mut rows = [zeros; 195];
+    let zeros = scan::zero_record();
+    let mut rows = [zeros; scan::MOST_RECORDS];
     let answer = scan_into_rows(ring, track, start_bit, &mut rows);
     let row = read_row(&rows, n);
     of_scan(row, n, answer)

@@ -11,11 +11,12 @@ use lib.Dec.{eqb}
 use lib.ListN.{length, drop, set, replicate, length-append, length-map}
 use borrow.Author.Tests.{eq-eqb, ne-eqb}
 use Rattle.base.specs.Choice.{pick}
+use Rattle.base.specs.Limits.{longestRing}
 use Rattle.base.specs.Bytes.{sameBytes}
 use Rattle.base.proofs.Lists.{put-one}
 use Rattle.ring.specs.Bit.{bits, bitAt}
 use Rattle.scan.specs.declared.SectorRecord.{SectorRecord}
-use Rattle.scan.specs.Scan.{recordsFrom}
+use Rattle.scan.specs.Scan.{recordsFrom, mostRecords}
 use Rattle.scan.proofs.ScanLaws.{few-records}
 use Rattle.scan.proofs.NextLaws.{NextIs}
 use Rattle.sector.specs.declared.Copies.{Copies}
@@ -77,17 +78,17 @@ places-in : (own : List SectorRecord) (r : SectorRecord) → placesIn (own ++ (r
 places-in [] r = refl
 places-in (q ∷ own) r = ap (λ (l : List ℕ). q .place ∷ l) (places-in own r)
 
-places-more : (own : List SectorRecord) (r : SectorRecord) → length own < 195
+places-more : (own : List SectorRecord) (r : SectorRecord) → length own < mostRecords
     → placesOf (own ++ (r ∷ [])) ≡ set (placesOf own) (length own) (r .place)
 places-more own r h =
-    ap₂ (λ (l : List ℕ) (n : ℕ). l ++ drop n (replicate 195 0)) (places-in own r) (length-more own r)
-    ∙ sym (put-one (placesIn own) (replicate 195 0) (length own) (r .place) (length-map own (λ r. r .place)) h)
+    ap₂ (λ (l : List ℕ) (n : ℕ). l ++ drop n (replicate mostRecords 0)) (places-in own r) (length-more own r)
+    ∙ sym (put-one (placesIn own) (replicate mostRecords 0) (length own) (r .place) (length-map own (λ r. r .place)) h)
 
 -- a copy more
-copy-more : (own : List SectorRecord) (r : SectorRecord) → length own < 195 → copiesOf (own ++ (r ∷ [])) ≡ withCopy (copiesOf own) r
+copy-more : (own : List SectorRecord) (r : SectorRecord) → length own < mostRecords → copiesOf (own ++ (r ∷ [])) ≡ withCopy (copiesOf own) r
 copy-more own r h = rw (places-more own r h, length-more own r, equal-more own r, payload-more own r)
 
-pub copies-more : (sector : ℕ) (rs : List SectorRecord) (r : SectorRecord) → length (recordsFor sector rs) < 195
+pub copies-more : (sector : ℕ) (rs : List SectorRecord) (r : SectorRecord) → length (recordsFor sector rs) < mostRecords
     → copiesIn sector (rs ++ (r ∷ [])) ≡ withRecord sector (copiesIn sector rs) r
 unfolding withRecord
 copies-more sector rs r h = ap copiesOf (for-more sector rs r) ∙ by (eqb (r .sector) sector)
@@ -156,8 +157,8 @@ module _ (ring : List ℕ) (track sector : ℕ) where
         sym (append-nil (s .done)) ∙ ap (λ (l : List SectorRecord). s .done ++ l) (sym e) ∙ s .rest in
         s .counted ∙ ap (copiesIn sector) n
 
-    module _ (small : length ring ≤ 65535) (r : SectorRecord) (i : NextIs (bitAt ring) track (bits ring) bit r) where
-      room : length (s .done) < 195
+    module _ (small : length ring ≤ longestRing) (r : SectorRecord) (i : NextIs (bitAt ring) track (bits ring) bit r) where
+      room : length (s .done) < mostRecords
       room =
           omega (
             arith,
@@ -166,7 +167,7 @@ module _ (ring : List ℕ) (track sector : ℕ) where
             few-records ring track 0 small,
           )
 
-      pub search-room : seen .count < 195
+      pub search-room : seen .count < mostRecords
       search-room =
           let n : seen .count ≡ length (recordsFor sector (s .done)) = ap (λ (c : Copies). c .count) (s .counted) in
           omega (arith, room, few-for sector (s .done))

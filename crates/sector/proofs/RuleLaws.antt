@@ -1,15 +1,12 @@
 -- The rules by what the search found: reading, and replacing.
 --     decided-read                    what the code makes of a search is what reading answers
---     no-ring                         what is no ring is refused
 --     small-places                    the places found are small
 --     refused-by, rewritten-by        replacing: refused, and not
 use mathlib.Core.Path.{_≡_, refl, sym, ap, _∙_, subst}
-use mathlib.Core.Logic.{_≢_}
 use mathlib.Core.Bool.{Bool, true, false, not}
 use mathlib.Core.List.{List, [], _∷_, _++_}
 use Prim.Native.Nat.{ℕ, zero, suc, _+_, _-_, _≤_, _<_}
 use native.Mathlib.Omega.{arith}
-use native.Mathlib.Decide.{decLt, ℕ-discrete}
 use lib.Dec.{eqb}
 use lib.ListN.{length, getD, take, drop, replicate, length-append, length-map, length-drop}
 use lib.Seq.{take-at}
@@ -17,9 +14,9 @@ use borrow.Author.Tests.{ne-eqb, lt-ltb}
 use Rattle.base.specs.Choice.{pick}
 use Rattle.base.specs.Limits.{longestRing}
 use Rattle.base.specs.Refusals.{ambiguous, _when_, refusal, unless}
-use Rattle.ring.specs.Bit.{IsRing, ringRefusal, bits, bitAt}
-use Rattle.ring.proofs.RingRefusals.{table-empty, table-long, table-fine}
+use Rattle.ring.specs.Bit.{IsRing, bits, bitAt}
 use Rattle.scan.specs.declared.SectorRecord.{SectorRecord}
+use Rattle.scan.specs.Scan.{mostRecords}
 use Rattle.scan.proofs.ScanLaws.{Every, few-records}
 use Rattle.scan.proofs.EachRecord.{each-next}
 use Rattle.base.specs.declared.Sector.{Sector}
@@ -32,7 +29,7 @@ use Rattle.sector.specs.Rules.{recordsIn, recordsFor, allLike, unique, c
 use Rattle.base.specs.Sectors.{good, refused}
 use Rattle.sector.specs.Replacing.{dataBlock, writtenAt, placesIn, replacedBy, answerOf}
 use Rattle.sector.specs.Inside.{copiesOf, copiesIn, isAmbiguous, decided, SmallPlaces}
-use Rattle.sector.proofs.SectorLaws.{read-empty, read-long, read-scanned}
+use Rattle.sector.proofs.SectorLaws.{read-scanned}
 use Rattle.sector.proofs.CopiesLaws.{whole, few-for}
 
 -- ---- the rules by a search are the rules by the records
@@ -53,16 +50,6 @@ decided-by Consistent (r ∷ l) = rw (some-not-none (length l)) (by (allLike (r 
 
 pub ambiguous-as : (found : Copies) (rule known : Rule) → rule ≡ known → isAmbiguous known found ≡ isAmbiguous rule found
 ambiguous-as found rule known e = ap (λ (r : Rule). isAmbiguous r found) (sym e)
-
--- ---- what is no ring is refused
-pub no-ring : (rule : List SectorRecord → Sector) (ring : List ℕ) (track sector number : ℕ) → number ≡ ringRefusal (length ring)
-    → number ≢ 0 → readBy rule ring track sector ≡ refused number
-no-ring rule ring track sector number e n = by (ℕ-discrete (length ring) 0) (decLt longestRing (length ring))
-  where
-    by : Dec (length ring ≡ 0) → Dec (longestRing < length ring) → readBy rule ring track sector ≡ refused number
-    by (yes z) l = read-empty rule ring track sector z ∙ ap refused (sym (e ∙ table-empty (length ring) [] z))
-    by (no z) (yes l) = read-long rule ring track sector z l ∙ ap refused (sym (e ∙ table-long (length ring) [] z l))
-    by (no z) (no l) = absurd (n (e ∙ table-fine (length ring) [] z (omega arith)))
 
 module _ (ring : List ℕ) (track sector : ℕ) (is : IsRing ring) (found : Copies) (e : found ≡ copiesIn sector (recordsIn ring track)) where
   pub decided-read : (rule : Rule) → decided rule found ≡ readBy (ruleOf rule) ring track sector
@@ -86,7 +73,7 @@ every-place n [] more t i h = absurd (omega arith)
 every-place n (r ∷ own) more t zero h = t .0
 every-place n (r ∷ own) more t (suc i) h = every-place n own more (t .1) i (omega arith)
 
-all-near : (ring : List ℕ) (track : ℕ) → length ring ≤ 65535 → Every (λ r. r .place < 2000000) (recordsIn ring track)
+all-near : (ring : List ℕ) (track : ℕ) → length ring ≤ longestRing → Every (λ r. r .place < 2000000) (recordsIn ring track)
 all-near ring track h =
     subst (Every (λ r. r .place < 2000000)) (whole ring track)
     (each-next (bitAt ring) track (bits ring) (λ r. r .place < 2000000) 0 (λ c r l i. omega (arith, i .near)))
@@ -95,7 +82,7 @@ pub small-places : (ring : List ℕ) (track sector : ℕ) → IsRing ring → (f
     → SmallPlaces (found .count) (found .places)
 small-places ring track sector is found e =
     let own : List SectorRecord = recordsFor sector (recordsIn ring track) in
-    let few : length own ≤ 195 = omega (arith, few-for sector (recordsIn ring track), few-records ring track 0 (is .small)) in
+    let few : length own ≤ mostRecords = omega (arith, few-for sector (recordsIn ring track), few-records ring track 0 (is .small)) in
     subst (λ (c : Copies). SmallPlaces (c .count) (c .places)) (sym e)
     (record {
       fits = simp (length-append, length-map, length-drop) (omega arith);
@@ -104,7 +91,7 @@ small-places ring track sector is found e =
 
 -- ---- replacing
 the-places : (own : List SectorRecord) → take (copiesOf own .count) (copiesOf own .places) ≡ placesIn own
-the-places own = take-at (placesIn own) (drop (length own) (replicate 195 0)) (length own) (length-map own (λ r. r .place))
+the-places own = take-at (placesIn own) (drop (length own) (replicate mostRecords 0)) (length own) (length-map own (λ r. r .place))
 
 module _ (rule : List SectorRecord → Sector) (ring : List ℕ) (track sector : ℕ) (payload : List ℕ) where
   pub refused-by : (n : ℕ) → readBy rule ring track sector ≡ refused n

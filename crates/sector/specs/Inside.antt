@@ -10,6 +10,7 @@ use Rattle.base.specs.Bytes.{sameBytes}
 use Rattle.base.specs.Sectors.{good, refused}
 use Rattle.base.specs.declared.Sector.{Sector}
 use Rattle.scan.specs.declared.SectorRecord.{SectorRecord}
+use Rattle.scan.specs.Scan.{mostRecords}
 use Rattle.sector.specs.declared.Rule.{Rule}
 use Rattle.sector.specs.declared.Rule.the-variants.{Unique, Consistent}
 use Rattle.sector.specs.declared.Copies.{Copies}
@@ -27,9 +28,9 @@ abbrev pub allEqual : List SectorRecord → Bool
 allEqual [] = true
 allEqual (r ∷ rs) = allLike (r .payload) rs
 
--- where the copies lie, in scan order, in a row of 195 places
+-- where the copies lie, in scan order, in a row that has room for all records
 abbrev pub placesOf : List SectorRecord → List ℕ
-placesOf own = placesIn own ++ drop (length own) (replicate 195 0)
+placesOf own = placesIn own ++ drop (length own) (replicate mostRecords 0)
 
 -- what there is of one sector
 abbrev pub copiesOf : List SectorRecord → Copies

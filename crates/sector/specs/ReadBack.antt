@@ -12,7 +12,7 @@ use Rattle.track_build.specs.Slots.{builtTrack}
 use Rattle.scan.specs.declared.SectorRecord.{SectorRecord}
 use Rattle.scan_visit.specs.Visit.{DataFault, NoSync, IllegalData, OtherMarker, FalseData, DataFound, BadData, AnotherHeader, GoodData}
 use Rattle.scan_visit.specs.Visit.{HeaderFound, BadHeader, TrueHeader, Visit}
-use Rattle.scan.specs.Scan.{visitsOf}
+use Rattle.scan.specs.Scan.{visitsOf, withPayload}
 use Rattle.base.specs.declared.Sector.{Sector}
 use Rattle.sector.specs.Rules.{recordsIn, recordsFor, readBy}
 use Rattle.base.specs.Sectors.{good}
@@ -83,7 +83,7 @@ pub record Apart (ring : List ℕ) (track sector : ℕ) : Type 0 where
 -- a record with another payload, where it is of this sector
 abbrev pub renewed : ℕ → List ℕ → SectorRecord → SectorRecord
 renewed sector payload r =
-    pick (eqb (r .sector) sector) (record { sector = r .sector; place = r .place; payload = payload }) r
+    pick (eqb (r .sector) sector) (withPayload payload r) r
 
 -- the ring has the same records as before, at the same places, with the new payload in those of the sector: the sector
 -- reads so by either rule, and every other sector as before by any

@@ -1,21 +1,19 @@
 -- Demand 3 of the code: its three calls put together, and the ways out.
---     sum-wrong, ring-short, out-short    refused, all stays as it was lent
---     three-calls                         a track built, forced to zero and read: what the definitions say, and demand 3 of it
-use Prim.Native.Nat.{ℕ, _+_, _*_, _%_, _≤_, _<_}
+--     sum-wrong, ring-short, out-short, statuses-short    refused, all stays as it was lent
+--     three-calls                                         a track built, forced to zero and read: what the definitions say, and demand 3 of it
+use Prim.Native.Nat.{ℕ, suc, _*_, _%_, _≤_, _<_}
 use mathlib.Core.Path.{_≡_, refl, sym, ap, ap₂, _∙_, subst}
-use mathlib.Core.Logic.{_≢_, _⊎_, inl, inr}
-use mathlib.Core.Bool.{Bool, true, false, _&&_}
+use mathlib.Core.Logic.{_≢_}
+use mathlib.Core.Bool.{true, false}
 use mathlib.Core.List.{List, _++_, append-nil}
 use native.Mathlib.Omega.{arith}
-use lib.Dec.{leb}
-use lib.ListN.{length, getD, drop, List·getD-append}
+use lib.Dec.{eqb, ltb}
+use lib.ListN.{length, drop}
 use lib.Seq.{sets, drop-length}
 use Rattle.base.specs.Lists.{countOf}
 use Rattle.base.specs.Refusals.{noRoom, wrongSum}
-use Rattle.base.proofs.Tests.{eqb-yes, eqb-no, leb-yes, leb-no}
-use Rattle.base.proofs.Lists.{length-tab, getD-tab}
+use Rattle.base.proofs.Tests.{eqb-yes, eqb-no, ltb-yes, ltb-no}
 use Rattle.base.proofs.InRow.{sets-front}
-use Rattle.base.proofs.Rows.{joined-part}
 use Rattle.geometry.specs.Zones.{sectorsOf, capacityOf}
 use Rattle.ring.specs.Stretch.{ringAfter as forcedAfter}
 use Rattle.ring.proofs.RingLaws.{ring-kept}
@@ -24,84 +22,67 @@ use Rattle.ring.proofs.StretchLaws.{done}
 use Rattle.track_build.specs.Slots.{builtTrack}
 use Rattle.track_build.specs.Answers.{outAfter as builtAfter}
 use Rattle.track_build.proofs.Stored.{length-built, written}
-use Rattle.track_read.specs.Reading.{Reading, missing, readSector, readPayloads, readStatuses}
+use Rattle.track_read.specs.Reading.{readPayloads, readStatuses, standing}
 use Rattle.track_read.specs.Answers.{trackRead, trackPayloads, trackStatuses}
 use Rattle.track_read.specs.declared.TrackRead.{TrackRead}
 use Rattle.track_read.specs.declared.TrackRead.the-variants.{Found, Refused}
-use Rattle.scan.proofs.Refusing.{room, short}
+use Rattle.track_read.proofs.ReadingLaws.{stands}
 use Rattle.track_read.proofs.Refusing.{read-goes}
-use Rattle.theorem_dropout.specs.Demand3.{Dropout, OfBytes, damaged, own, Demand3}
-use Rattle.theorem_dropout.proofs.Theorem.{own-or-missing, demand-3, damaged-length, never-refused}
-use Rattle.theorem_dropout.specs.Survival.{hasRoom, unlessRefused, answer, ringAfter, outAfter, statusesAfter, standing, ReadAfterDropout}
-
--- what stands for sector j in front of the buffers is what is read of it
-module _ (ring : List ℕ) (track start : ℕ) (rest more : List ℕ) where
-  stands : ((j : ℕ) → length (readSector ring track start j .payload) ≡ 256) → (j : ℕ) → j < sectorsOf track
-      → readSector ring track start j ≡ standing (readPayloads ring track start ++ rest) (readStatuses ring track start ++ more) j
-  stands sized j l =
-      let status : ℕ → ℕ = λ i. readSector ring track start i .status in
-      let payload : ℕ → List ℕ = λ i. readSector ring track start i .payload in
-      ap₂ (λ (s : ℕ) (p : List ℕ). reading s p)
-      (sym (List·getD-append (readStatuses ring track start) more 0 j (omega (arith, length-tab (sectorsOf track) status))
-      ∙ getD-tab (sectorsOf track) status j l))
-      (sym (joined-part 256 payload sized (sectorsOf track) j l rest))
-    where
-      reading : ℕ → List ℕ → Reading
-      reading s p = record { status = s; payload = p }
+use Rattle.theorem_dropout.specs.Demand3.{Dropout, OfBytes, damaged, Demand3}
+use Rattle.theorem_dropout.proofs.Theorem.{demand-3, damaged-length, never-refused}
+use Rattle.theorem_dropout.specs.Survival.{dropoutRefusal, answer, ringAfter, outAfter, statusesAfter, ReadAfterDropout}
 
 module _ (d : Dropout) (ring out statuses : List ℕ) where
   -- ---- refused
-  refused : (k : ℕ) → ((A : Type 0) (refuse : ℕ → A) (good : A) → unlessRefused d ring out statuses refuse good ≡ refuse k)
-      → ReadAfterDropout d ring out statuses ring out statuses (Refused k)
+  refused : (k : ℕ) → dropoutRefusal d ring out statuses ≡ suc k → ReadAfterDropout d ring out statuses ring out statuses (Refused (suc k))
   unfolding answer ringAfter outAfter statusesAfter
-  refused k h = record {
-    answered = sym (h TrackRead Refused _);
-    damage-left = sym (h (List ℕ) (λ n. ring) _);
-    payloads-left = sym (h (List ℕ) (λ n. out) _);
-    statuses-left = sym (h (List ℕ) (λ n. statuses) _);
-    demand-3 = λ n e j l. absurd (let z : _≡_ {A = ℕ} 0 1 = cc in omega arith);
+  refused k e = record {
+    answered = rw e;
+    damage-left = rw e;
+    payloads-left = rw e;
+    statuses-left = rw e;
+    demand-3 = λ n f j l. absurd (let z : _≡_ {A = ℕ} 0 1 = cc in omega arith);
   }
 
   pub sum-wrong : length (d .payloads) % 256 ≢ 0 → ReadAfterDropout d ring out statuses ring out statuses (Refused wrongSum)
-  sum-wrong n = let e = eqb-no (length (d .payloads) % 256) 0 n in refused wrongSum (λ A refuse good. rw e)
+  sum-wrong n = let e = eqb-no (length (d .payloads) % 256) 0 n in refused 9 (rw e)
 
   module _ (s : length (d .payloads) % 256 ≡ 0) where
-    without : hasRoom (d .track) ring out statuses ≡ false → ReadAfterDropout d ring out statuses ring out statuses (Refused noRoom)
-    without f = let e = eqb-yes (length (d .payloads) % 256) 0 s in refused noRoom (λ A refuse good. rw (e, f))
+    summed : eqb (length (d .payloads) % 256) 0 ≡ true
+    summed = eqb-yes (length (d .payloads) % 256) 0 s
 
     pub ring-short : length ring < capacityOf (d .track) → ReadAfterDropout d ring out statuses ring out statuses (Refused noRoom)
-    ring-short h =
-        without (ap (λ (b : Bool). b && (leb (256 * sectorsOf (d .track)) (length out) && leb (sectorsOf (d .track)) (length statuses)))
-        (leb-no (capacityOf (d .track)) (length ring) h))
+    ring-short h = refused 6 (rw (summed, ltb-yes (length ring) (capacityOf (d .track)) h))
 
     module _ (h : capacityOf (d .track) ≤ length ring) where
-      pub out-short : (length out < 256 * sectorsOf (d .track))
-          ⊎ ((256 * sectorsOf (d .track) ≤ length out) × (length statuses < sectorsOf (d .track)))
+      built : ltb (length ring) (capacityOf (d .track)) ≡ false
+      built = ltb-no (length ring) (capacityOf (d .track)) h
+
+      pub out-short : length out < 256 * sectorsOf (d .track) → ReadAfterDropout d ring out statuses ring out statuses (Refused noRoom)
+      out-short k = refused 6 (rw (summed, built, ltb-yes (length out) (256 * sectorsOf (d .track)) k))
+
+      pub statuses-short : 256 * sectorsOf (d .track) ≤ length out → length statuses < sectorsOf (d .track)
           → ReadAfterDropout d ring out statuses ring out statuses (Refused noRoom)
-      out-short k =
-          without (ap₂ (λ (b c : Bool). b && c) (leb-yes (capacityOf (d .track)) (length ring) h)
-          (short (256 * sectorsOf (d .track)) (length out) (sectorsOf (d .track)) (length statuses) k))
+      statuses-short k l =
+          refused 6 (rw (
+            summed,
+            built,
+            ltb-no (length out) (256 * sectorsOf (d .track)) k,
+            ltb-yes (length statuses) (sectorsOf (d .track)) l,
+          ))
 
       -- ---- read
       module _ (ho : 256 * sectorsOf (d .track) ≤ length out) (hs : sectorsOf (d .track) ≤ length statuses) (ok : OfBytes d) where
         abbrev whole : List ℕ
         whole = builtTrack (d .track) (d .payloads) (d .codes) (d .id1) (d .id2)
 
-        taken : (A : Type 0) (refuse : ℕ → A) (good : A) → unlessRefused d ring out statuses refuse good ≡ good
-        taken A refuse good =
-            let e = eqb-yes (length (d .payloads) % 256) 0 s in
-            let f : hasRoom (d .track) ring out statuses ≡ true = ap₂ (λ (b c : Bool). b && c)
-            (leb-yes (capacityOf (d .track)) (length ring) h)
-            (room (256 * sectorsOf (d .track)) (length out) (sectorsOf (d .track)) (length statuses) ho hs) in
-            rw (e, f)
-
-        sized : (j : ℕ) → length (readSector (damaged d) (d .track) (d .start) j .payload) ≡ 256
-        sized j = go (own-or-missing d ok j)
-          where
-            go : (readSector (damaged d) (d .track) (d .start) j ≡ own d j) ⊎ (readSector (damaged d) (d .track) (d .start) j ≡ missing)
-                → length (readSector (damaged d) (d .track) (d .start) j .payload) ≡ 256
-            go (inl e) = ap (λ (y : Reading). length (y .payload)) e ∙ length-tab 256 (λ i. getD (d .payloads) (256 * j + i) 0)
-            go (inr e) = ap (λ (y : Reading). length (y .payload)) e
+        taken : dropoutRefusal d ring out statuses ≡ 0
+        taken = rw (
+          summed,
+          built,
+          ltb-no (length out) (256 * sectorsOf (d .track)) ho,
+          ltb-no (length statuses) (sectorsOf (d .track)) hs,
+        )
 
         long : length whole ≡ capacityOf (d .track)
         long = length-built (d .track) (d .payloads) (d .codes) (d .id1) (d .id2)
@@ -145,11 +126,11 @@ module _ (d : Dropout) (ring out statuses : List ℕ) where
             ∙ ap (λ (y : List ℕ). trackStatuses y (d .track) (d .start) out statuses) m ∙ sym (read-is .2) in
             record {
               answered = a ∙ ap (λ (y : List ℕ). trackRead y (d .track) (d .start) out statuses) m ∙ sym (read-is .0)
-                  ∙ sym (taken TrackRead Refused _);
-              damage-left = ap₂ (λ (y : List ℕ) (n : ℕ). y ++ drop n ring) m g ∙ sym (taken (List ℕ) (λ n. ring) _);
-              payloads-left = lp ∙ sym (taken (List ℕ) (λ n. out) _);
-              statuses-left = ls ∙ sym (taken (List ℕ) (λ n. statuses) _);
+                  ∙ rw taken;
+              damage-left = ap₂ (λ (y : List ℕ) (n : ℕ). y ++ drop n ring) m g ∙ rw taken;
+              payloads-left = lp ∙ rw taken;
+              statuses-left = ls ∙ rw taken;
               demand-3 = λ n u j v.
-                  subst (Demand3 d j) (stands (damaged d) (d .track) (d .start) _ _ sized j v
+                  subst (Demand3 d j) (stands (damaged d) (d .track) (d .start) _ _ j v
                   ∙ ap₂ (λ (x y : List ℕ). standing x y j) (sym lp) (sym ls)) (demand-3 d ok j v);
             }

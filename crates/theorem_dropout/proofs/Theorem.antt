@@ -16,6 +16,7 @@ use lib.ListN.{length, getD}
 use Rattle.base.specs.Choice.{pick}
 use Rattle.base.specs.Lists.{tab, joined}
 use Rattle.base.proofs.Lists.{length-tab, getD-tab, is-tab}
+use Rattle.base.specs.Limits.{longestRing}
 use Rattle.geometry.specs.Zones.{zoneOf, sectorsIn, capacityIn, sectorsOf, capacityOf, slotStart}
 use Rattle.geometry.proofs.ZoneLaws.{zone-lt, capacity-le, sectors-in, gap-ge, fills, start-next}
 use Rattle.gcr.proofs.EncodeLaws.{at, nibble, Bytes}
@@ -30,9 +31,9 @@ use Rattle.track_build.proofs.TrackBits.{slotAt, st, ln, length-ring, slot-fits
 use Rattle.track_build.proofs.Meaning.{Meaning, meaning, header-lt, data-long, data-lt, mark-is}
 use Rattle.scan.specs.Scan.{recordsOf, visitsOf}
 use Rattle.scan.specs.declared.SectorRecord.{SectorRecord}
-use Rattle.track_read.specs.Reading.{handedOut, missing, firstOf, readSector}
+use Rattle.track_read.specs.Reading.{Given, NotGiven, firstOf, readSector}
 use Rattle.scan.proofs.ScanLaws.{scan, Every, Any, every-map, few-records}
-use Rattle.track_read.proofs.ReadingLaws.{Handed, handed, first-cases, first-found}
+use Rattle.track_read.proofs.ReadingLaws.{GivenBy, first-cases, first-found}
 use Rattle.theorem_dropout.specs.Demand3.{Dropout, OfBytes, damaged, own, Spoils, Statement, NeverRefused}
 use Rattle.theorem_dropout.proofs.Cut.{dropped, outside, around}
 use Rattle.theorem_dropout.proofs.Sound.{Whole, sound}
@@ -266,15 +267,15 @@ module _ (d : Dropout) (ok : OfBytes d) where
       all-own (d .track) (d .id1) (d .id2) (d .payloads) (d .codes) (ok .track-byte) (ok .id1-byte) (ok .id2-byte) (ok .payload-bytes)
       (d .place) (d .long) (damaged d) (d .start) zeroed
 
-  -- what is handed out of records that are all their own sector's is the sector's own
-  handed-own : (j : ℕ) → Handed P j (firstOf j found) → firstOf j found ≡ own d j
-  handed-own j (r, p, e, q) = q ∙ ap handedOut (p .2 ∙ ap (payloadOf (d .payloads)) e)
+  -- what is given of records that are all their own sector's is the sector's own
+  given-own : (j : ℕ) → GivenBy P j (firstOf j found) → firstOf j found ≡ own d j
+  given-own j (r, p, e, q) = q ∙ ap Given (p .2 ∙ ap (payloadOf (d .payloads)) e)
 
-  sort : (j : ℕ) → (firstOf j found ≡ missing) ⊎ Handed P j (firstOf j found) → (firstOf j found ≡ own d j) ⊎ (firstOf j found ≡ missing)
+  sort : (j : ℕ) → (firstOf j found ≡ NotGiven) ⊎ GivenBy P j (firstOf j found) → (firstOf j found ≡ own d j) ⊎ (firstOf j found ≡ NotGiven)
   sort j (inl e) = inr e
-  sort j (inr h) = inl (handed-own j h)
+  sort j (inr h) = inl (given-own j h)
 
-  none : (j : ℕ) → Spoils (codeOf (d .codes) j) → (firstOf j found ≡ missing) ⊎ Handed P j (firstOf j found) → firstOf j found ≡ missing
+  none : (j : ℕ) → Spoils (codeOf (d .codes) j) → (firstOf j found ≡ NotGiven) ⊎ GivenBy P j (firstOf j found) → firstOf j found ≡ NotGiven
   none j s (inl e) = e
   none j s (inr (r, p, e, q)) =
       absurd (not-whole (codeOf (d .codes) j) s (subst (λ (y : ℕ). Whole (codeOf (d .codes) y)) e (p .1)))
@@ -282,22 +283,22 @@ module _ (d : Dropout) (ok : OfBytes d) where
   abbrev ring-long : length (damaged d) ≡ capacityOf (d .track)
   ring-long = zeroed .same-length ∙ as-long
 
-  ring-small : length (damaged d) ≤ 65535
+  ring-small : length (damaged d) ≤ longestRing
   ring-small = omega (arith, ring-long, capacity-le (zoneOf (d .track)) (zone-lt (d .track)))
 
 -- what is handed out for any number j, a sector of the track or not
-pub own-or-missing : (d : Dropout) → OfBytes d → (j : ℕ)
-    → (readSector (damaged d) (d .track) (d .start) j ≡ own d j) ⊎ (readSector (damaged d) (d .track) (d .start) j ≡ missing)
-own-or-missing d ok j = sort d ok j (first-cases (P d ok) j (found d ok) (every d ok))
+pub own-or-none : (d : Dropout) → OfBytes d → (j : ℕ)
+    → (readSector (damaged d) (d .track) (d .start) j ≡ own d j) ⊎ (readSector (damaged d) (d .track) (d .start) j ≡ NotGiven)
+own-or-none d ok j = sort d ok j (first-cases (P d ok) j (found d ok) (every d ok))
 
 pub demand-3 : Statement
 demand-3 d ok j lj = record {
   escaped = λ s esc.
-      handed-own d ok j
+      given-own d ok j
       (first-found (P d ok) j (found d ok) (every d ok)
       (all-found (d .track) (d .id1) (d .id2) (d .payloads) (d .codes) (ok .track-byte) (ok .id1-byte) (ok .id2-byte) (ok .payload-bytes)
       (d .place) (d .long) (damaged d) (d .start) (zeroed d ok) j lj (not-spoilt (codeOf (d .codes) j) s) esc));
-  hit = own-or-missing d ok j;
+  hit = own-or-none d ok j;
   spoiled = λ s. none d ok j s (first-cases (P d ok) j (found d ok) (every d ok));
 }
 

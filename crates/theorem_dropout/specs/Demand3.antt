@@ -1,5 +1,5 @@
--- Demand 3: a built track, one stretch of it forced to zero, read from any bit: each untouched sector gives its payload,
--- a hit one its own payload or nothing, one with code 2, 3, 4, 5 or 9 nothing.
+-- Demand 3: a built track, one stretch of it forced to zero, read from any bit: each untouched sector is given with its
+-- payload, a hit one with its own payload or not at all, one with code 2, 3, 4, 5 or 9 not at all.
 use Prim.Native.Nat.{ℕ, _+_, _*_, _≤_, _<_}
 use mathlib.Core.Path.{_≡_}
 use mathlib.Core.Logic.{_⊎_}
@@ -10,8 +10,8 @@ use Rattle.geometry.specs.Zones.{zoneOf, sectorsOf, capacityOf, slotStart}
 use Rattle.ring.specs.Bit.{IsRing}
 use Rattle.ring.specs.Stretch.{inStretch, forceToZero}
 use Rattle.track_build.specs.Slots.{codeOf, payloadOf, builtTrack}
-use Rattle.scan.specs.Scan.{records}
-use Rattle.track_read.specs.Reading.{Reading, handedOut, missing, readSector}
+use Rattle.scan.specs.Scan.{records, mostRecords}
+use Rattle.track_read.specs.Reading.{Handed, Given, NotGiven, readSector}
 
 -- a built track, the stretch that a dropout forces to zero, and the bit where reading starts
 pub record Dropout : Type 0 where
@@ -35,9 +35,9 @@ pub record OfBytes (d : Dropout) : Type 0 where
 abbrev pub damaged : Dropout → List ℕ
 damaged d = forceToZero (builtTrack (d .track) (d .payloads) (d .codes) (d .id1) (d .id2)) (d .place) (d .long)
 
--- sector j handed out, status 1, with its own payload; `missing` is status 2 and zeros
-abbrev pub own : Dropout → ℕ → Reading
-own d j = handedOut (payloadOf (d .payloads) j)
+-- sector j given with its own payload
+abbrev pub own : Dropout → ℕ → Handed
+own d j = Given (payloadOf (d .payloads) j)
 
 -- a code that spoils its sector
 abbrev pub Spoils : ℕ → Type 0
@@ -50,10 +50,10 @@ Untouched d j =
     → ¬ (T (inStretch (8 * capacityOf (d .track)) (d .place) (d .long) (8 * slotStart (zoneOf (d .track)) j + o)))
 
 -- demand 3 of what is handed out for sector j; `hit` is said of every sector, touched or not
-pub record Demand3 (d : Dropout) (j : ℕ) (r : Reading) : Type 0 where
+pub record Demand3 (d : Dropout) (j : ℕ) (r : Handed) : Type 0 where
   pub escaped : ¬ (Spoils (codeOf (d .codes) j)) → Untouched d j → r ≡ own d j
-  pub hit : (r ≡ own d j) ⊎ (r ≡ missing)
-  pub spoiled : Spoils (codeOf (d .codes) j) → r ≡ missing
+  pub hit : (r ≡ own d j) ⊎ (r ≡ NotGiven)
+  pub spoiled : Spoils (codeOf (d .codes) j) → r ≡ NotGiven
 
 -- the statement: every sector of every track, as it is read off the damaged ring
 abbrev pub Statement : Type 0
@@ -61,10 +61,10 @@ Statement =
     (d : Dropout) → OfBytes d → (j : ℕ) → j < sectorsOf (d .track)
     → Demand3 d j (readSector (damaged d) (d .track) (d .start) j)
 
--- and no reader refuses that ring: it has 1 to 65,535 bytes, and at most 195 records
+-- and no reader refuses that ring: it has 1 to 65,535 bytes, and not too many records
 pub record Readable (d : Dropout) : Type 0 where
   pub ring : IsRing (damaged d)
-  pub few : length (records (damaged d) (d .track) (d .start)) ≤ 195
+  pub few : length (records (damaged d) (d .track) (d .start)) ≤ mostRecords
 
 abbrev pub NeverRefused : Type 0
 NeverRefused = (d : Dropout) → OfBytes d → Readable d

@@ -1,15 +1,14 @@
 -- Demand 3 of the code: what `read_after_dropout` answers and leaves.
 use Prim.Native.Nat.{ℕ, _+_, _*_, _%_, _<_}
 use mathlib.Core.Path.{_≡_}
-use mathlib.Core.Bool.{Bool, _&&_}
-use mathlib.Core.List.{List, _++_}
-use lib.Dec.{eqb, leb}
-use lib.ListN.{length, getD, take, drop}
-use Rattle.base.specs.Choice.{pick}
+use mathlib.Core.Bool.{not}
+use mathlib.Core.List.{List, [], _∷_, _++_}
+use lib.Dec.{eqb, ltb}
+use lib.ListN.{length, drop}
 use Rattle.base.specs.Lists.{countOf}
-use Rattle.base.specs.Refusals.{noRoom, wrongSum}
+use Rattle.base.specs.Refusals.{noRoom, wrongSum, _when_, refusal, unless}
 use Rattle.geometry.specs.Zones.{sectorsOf, capacityOf}
-use Rattle.track_read.specs.Reading.{Reading, readPayloads, readStatuses}
+use Rattle.track_read.specs.Reading.{readPayloads, readStatuses, standing}
 use Rattle.track_read.specs.declared.TrackRead.{TrackRead}
 use Rattle.track_read.specs.declared.TrackRead.the-variants.{Found, Refused}
 use Rattle.theorem_dropout.specs.Demand3.{Dropout, damaged, Demand3}
@@ -27,38 +26,33 @@ dropoutOf track payloads codes id1 id2 place long start = record {
   start = start;
 }
 
--- what is lent has room for the ring, the payloads and the statuses of the track
-abbrev pub hasRoom : ℕ → List ℕ → List ℕ → List ℕ → Bool
-hasRoom track ring out statuses =
-    leb (capacityOf track) (length ring) && (leb (256 * sectorsOf track) (length out) && leb (sectorsOf track) (length statuses))
+-- the refusals, top to bottom: what is lent needs room for the ring, the payloads and the statuses of the track
+abbrev pub dropoutRefusal : Dropout → List ℕ → List ℕ → List ℕ → ℕ
+dropoutRefusal d ring out statuses =
+    refusal (wrongSum when not (eqb (length (d .payloads) % 256) 0)
+    ∷ noRoom when ltb (length ring) (capacityOf (d .track))
+    ∷ noRoom when ltb (length out) (256 * sectorsOf (d .track))
+    ∷ noRoom when ltb (length statuses) (sectorsOf (d .track))
+    ∷ [])
 
--- the refusals in their order, or what follows
-abbrev pub unlessRefused {ℓ} : {A : Type ℓ} → Dropout → List ℕ → List ℕ → List ℕ → (ℕ → A) → A → A
-unlessRefused d ring out statuses refuse good =
-    pick (eqb (length (d .payloads) % 256) 0) (pick (hasRoom (d .track) ring out statuses) good (refuse noRoom)) (refuse wrongSum)
-
--- the answer: how many sectors are handed out, or the refusal's number
+-- the answer: how many sectors are given, or the refusal's number
 unfoldable pub answer : Dropout → List ℕ → List ℕ → List ℕ → TrackRead
 answer d ring out statuses =
-    unlessRefused d ring out statuses Refused (Found (countOf 1 (readStatuses (damaged d) (d .track) (d .start))))
+    unless (dropoutRefusal d ring out statuses) Refused (Found (countOf 1 (readStatuses (damaged d) (d .track) (d .start))))
 
 -- the damaged track, the payloads and the statuses stand in front of what was lent; refused, all is as it came
 unfoldable pub ringAfter : Dropout → List ℕ → List ℕ → List ℕ → List ℕ
-ringAfter d ring out statuses = unlessRefused d ring out statuses (λ n. ring) (damaged d ++ drop (capacityOf (d .track)) ring)
+ringAfter d ring out statuses = unless (dropoutRefusal d ring out statuses) (λ n. ring) (damaged d ++ drop (capacityOf (d .track)) ring)
 
 unfoldable pub outAfter : Dropout → List ℕ → List ℕ → List ℕ → List ℕ
 outAfter d ring out statuses =
-    unlessRefused d ring out statuses (λ n. out)
+    unless (dropoutRefusal d ring out statuses) (λ n. out)
     (readPayloads (damaged d) (d .track) (d .start) ++ drop (256 * sectorsOf (d .track)) out)
 
 unfoldable pub statusesAfter : Dropout → List ℕ → List ℕ → List ℕ → List ℕ
 statusesAfter d ring out statuses =
-    unlessRefused d ring out statuses (λ n. statuses)
+    unless (dropoutRefusal d ring out statuses) (λ n. statuses)
     (readStatuses (damaged d) (d .track) (d .start) ++ drop (sectorsOf (d .track)) statuses)
-
--- what stands there for sector j: its status, and its 256 bytes
-abbrev pub standing : List ℕ → List ℕ → ℕ → Reading
-standing out statuses j = record { status = getD statuses j 0; payload = take 256 (drop (256 * j) out) }
 
 -- the contract: the equations; and where the track was read, demand 3 of what stands there for each sector
 pub record ReadAfterDropout (d : Dropout) (ring out statuses ring′ out′ statuses′ : List ℕ) (r : TrackRead) : Type 0 where

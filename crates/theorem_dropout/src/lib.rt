@@ -1,5 +1,5 @@
-// Demand 3: its statement (specs/) and its proof (proofs/).
-// Demand 3 of the code: a track built, a stretch of it forced to zero, and read from a bit.
+// Demand 3: its statement (specs/Demand3) and its proof (proofs/); and demand 3 of the code, a track built, a stretch of it
+// forced to zero, and read from a bit (specs/Survival).
 ghost use Rattle.theorem_dropout.specs.Survival.{dropoutOf, ReadAfterDropout};
 use track_read::TrackRead;
 

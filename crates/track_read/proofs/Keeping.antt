@@ -15,15 +15,16 @@ use Rattle.base.proofs.Tests.{eqb-yes, eqb-no, pick-lt}
 use Rattle.base.proofs.Lists.{length-tab, getD-tab, tab-same}
 use Rattle.base.proofs.Stores.{sets-left, tab-put, joined-same, joined-long, joined-put, tab-filled, joined-filled, count-put, count-none}
 use Rattle.base.proofs.Stores.{count-le}
+use Rattle.base.proofs.InRow.{sets-front}
 use Rattle.geometry.specs.Zones.{sectorsOf}
 use Rattle.ring.specs.Bit.{bits, bitAt}
 use Rattle.scan.specs.declared.SectorRecord.{SectorRecord}
 use Rattle.scan.specs.Scan.{recordsFrom, records}
-use Rattle.track_read.specs.Reading.{Reading, handedOut, missing, firstOf, readPayloads, readStatuses}
-use Rattle.track_read.specs.Helpers.{Kept, ReadInto}
+use Rattle.track_read.specs.Reading.{Handed, Given, NotGiven, firstOf, bytesOf, statusOf, readPayloads, readStatuses}
+use Rattle.track_read.specs.Inside.{Kept, ReadInto}
 use Rattle.scan.proofs.ScanLaws.{Every}
 use Rattle.scan.proofs.NextLaws.{NextIs}
-use Rattle.track_read.proofs.ReadingLaws.{Handed, first-cases}
+use Rattle.track_read.proofs.ReadingLaws.{first-sized}
 use Rattle.scan.proofs.Passing.{endOf, Sized, Passing, sets-out, passes, all-passed}
 
 -- ---- the first record of a sector, with a record more
@@ -31,44 +32,37 @@ module _ (j : ℕ) (r : SectorRecord) where
   -- a record of another sector; a second record; and a first one
   pub first-other : (l : List SectorRecord) → r .sector ≢ j → firstOf j (l ++ (r ∷ [])) ≡ firstOf j l
   unfolding firstOf
-  first-other [] n = ap (λ (b : Bool). pick b (handedOut (r .payload)) missing) (eqb-no (r .sector) j n)
-  first-other (q ∷ l) n = ap (pick (eqb (q .sector) j) (handedOut (q .payload))) (first-other l n)
+  first-other [] n = ap (λ (b : Bool). pick b (Given (r .payload)) NotGiven) (eqb-no (r .sector) j n)
+  first-other (q ∷ l) n = ap (pick (eqb (q .sector) j) (Given (q .payload))) (first-other l n)
 
-  first-second : (l : List SectorRecord) → firstOf j l .status ≡ 1 → firstOf j (l ++ (r ∷ [])) ≡ firstOf j l
+  first-second : (l : List SectorRecord) → statusOf (firstOf j l) ≡ 1 → firstOf j (l ++ (r ∷ [])) ≡ firstOf j l
   unfolding firstOf
   first-second [] n = absurd (omega arith)
   first-second (q ∷ l) n = go (eqb (q .sector) j) n (λ m. first-second l m)
     where
-      go : (b : Bool) → pick b (handedOut (q .payload)) (firstOf j l) .status ≡ 1 → (firstOf j l .status ≡ 1 → firstOf j (l ++ (r ∷ []))
+      go : (b : Bool) → statusOf (pick b (Given (q .payload)) (firstOf j l)) ≡ 1 → (statusOf (firstOf j l) ≡ 1 → firstOf j (l ++ (r ∷ []))
           ≡ firstOf j l)
-          → pick b (handedOut (q .payload)) (firstOf j (l ++ (r ∷ []))) ≡ pick b (handedOut (q .payload)) (firstOf j l)
+          → pick b (Given (q .payload)) (firstOf j (l ++ (r ∷ []))) ≡ pick b (Given (q .payload)) (firstOf j l)
       go true n ih = refl
       go false n ih = ih n
 
-  first-new : (l : List SectorRecord) → r .sector ≡ j → firstOf j l .status ≢ 1 → firstOf j (l ++ (r ∷ [])) ≡ handedOut (r .payload)
+  first-new : (l : List SectorRecord) → r .sector ≡ j → statusOf (firstOf j l) ≢ 1 → firstOf j (l ++ (r ∷ [])) ≡ Given (r .payload)
   unfolding firstOf
-  first-new [] e n = ap (λ (b : Bool). pick b (handedOut (r .payload)) missing) (eqb-yes (r .sector) j e)
+  first-new [] e n = ap (λ (b : Bool). pick b (Given (r .payload)) NotGiven) (eqb-yes (r .sector) j e)
   first-new (q ∷ l) e n = go (eqb (q .sector) j) n (λ m. first-new l e m)
     where
-      go : (b : Bool) → pick b (handedOut (q .payload)) (firstOf j l) .status ≢ 1
-          → (firstOf j l .status ≢ 1 → firstOf j (l ++ (r ∷ [])) ≡ handedOut (r .payload))
-          → pick b (handedOut (q .payload)) (firstOf j (l ++ (r ∷ []))) ≡ handedOut (r .payload)
+      go : (b : Bool) → statusOf (pick b (Given (q .payload)) (firstOf j l)) ≢ 1
+          → (statusOf (firstOf j l) ≢ 1 → firstOf j (l ++ (r ∷ [])) ≡ Given (r .payload))
+          → pick b (Given (q .payload)) (firstOf j (l ++ (r ∷ []))) ≡ Given (r .payload)
       go true n ih = absurd (n refl)
       go false n ih = ih n
 
-first-sized : (l : List SectorRecord) → Every Sized l → (j : ℕ) → length (firstOf j l .payload) ≡ 256
-first-sized l t j = go (first-cases Sized j l t)
-  where
-    go : (firstOf j l ≡ missing) ⊎ Handed Sized j (firstOf j l) → length (firstOf j l .payload) ≡ 256
-    go (inl e) = ap (λ (y : Reading). length (y .payload)) e
-    go (inr (r, s, q, e)) = ap (λ (y : Reading). length (y .payload)) e ∙ s
-
 -- ---- the payloads and statuses by the records passed
 abbrev payloadBy : List SectorRecord → ℕ → List ℕ
-payloadBy done j = firstOf j done .payload
+payloadBy done j = bytesOf (firstOf j done)
 
 abbrev statusBy : List SectorRecord → ℕ → ℕ
-statusBy done j = firstOf j done .status
+statusBy done j = statusOf (firstOf j done)
 
 pub record Keeping (ring : List ℕ) (track start : ℕ) (payloads₀ statuses₀ payloads statuses : List ℕ) (bit n : ℕ) : Type 0 where
   pub done : List SectorRecord
@@ -83,12 +77,16 @@ pub record Blank (track : ℕ) (payloads statuses payloads₁ statuses₁ : List
   pub twos : statuses₁ ≡ replicate (sectorsOf track) 2 ++ drop (sectorsOf track) statuses
 
 pub blank : (track k : ℕ) (payloads statuses payloads₁ statuses₁ : List ℕ) → k ≡ sectorsOf track
-    → payloads₁ ≡ replicate (256 * k) 0 ++ drop (256 * k) payloads → statuses₁ ≡ replicate k 2 ++ drop k statuses → Blank track payloads
-    statuses payloads₁ statuses₁
-blank track k payloads statuses payloads₁ statuses₁ e p q =
+    → 256 * sectorsOf track ≤ length payloads → sectorsOf track ≤ length statuses
+    → payloads₁ ≡ sets payloads 0 (replicate (256 * k) 0) → statuses₁ ≡ sets statuses 0 (replicate k 2)
+    → Blank track payloads statuses payloads₁ statuses₁
+blank track k payloads statuses payloads₁ statuses₁ e h₁ h₂ p q =
     record {
-      zeros = p ∙ ap (λ (y : ℕ). replicate (256 * y) 0 ++ drop (256 * y) payloads) e;
-      twos = q ∙ ap (λ (y : ℕ). replicate y 2 ++ drop y statuses) e;
+      zeros = p ∙ ap (λ (y : ℕ). sets payloads 0 (replicate (256 * y) 0)) e
+          ∙ sets-front (replicate (256 * sectorsOf track) 0) payloads (256 * sectorsOf track)
+          (length-replicate {A = ℕ} (256 * sectorsOf track) 0) h₁;
+      twos = q ∙ ap (λ (y : ℕ). sets statuses 0 (replicate y 2)) e
+          ∙ sets-front (replicate (sectorsOf track) 2) statuses (sectorsOf track) (length-replicate {A = ℕ} (sectorsOf track) 2) h₂;
     }
 
 module _ {track : ℕ} {payloads statuses payloads₁ statuses₁ : List ℕ} (b : Blank track payloads statuses payloads₁ statuses₁) where
@@ -176,13 +174,13 @@ module _ {ring : List ℕ} {track start : ℕ} {payloads₀ statuses₀ payloads
         → Keeping ring track start payloads₀ statuses₀ (sets payloads (256 * r .sector) (r .payload)) (set statuses (r .sector) 1)
         (r .place + 2600) (n + 1)
     found-first e =
-        let new : firstOf (r .sector) (i .done ++ (r ∷ [])) ≡ handedOut (r .payload) = first-new (r .sector) r (i .done) refl
+        let new : firstOf (r .sector) (i .done ++ (r ∷ [])) ≡ Given (r .payload) = first-new (r .sector) r (i .done) refl
         (λ z. e (status-at ∙ z)) in
         let others : (j : ℕ) → j ≢ r .sector → firstOf j (i .done ++ (r ∷ [])) ≡ firstOf j (i .done) = λ j d. first-other j r (i .done)
         (λ z. d (sym z)) in
         let put : set (tab (sectorsOf track) (statusBy (i .done))) (r .sector) 1 ≡ tab (sectorsOf track) (statusBy (i .done ++ (r ∷ [])))
         = tab-put (sectorsOf track) (r .sector) 1 (statusBy (i .done)) (statusBy (i .done ++ (r ∷ []))) (next .sector)
-        (ap (λ (y : Reading). y .status) new) (λ j d. ap (λ (y : Reading). y .status) (others j d)) in
+        (ap (λ (y : Handed). statusOf y) new) (λ j d. ap (λ (y : Handed). statusOf y) (others j d)) in
         record {
           done = i .done ++ (r ∷ []);
           passed = passes (i .passed) r next;
@@ -193,7 +191,7 @@ module _ {ring : List ℕ} {track start : ℕ} {payloads₀ statuses₀ payloads
               ∙ ap (λ (l : List ℕ). l ++ drop (256 * sectorsOf track) payloads₀)
               (joined-put 256 (payloadBy (i .done)) sized (sectorsOf track) (r .sector) (r .payload) (payloadBy (i .done ++ (r ∷ [])))
               (next .sector) (next .long)
-              (ap (λ (y : Reading). y .payload) new) (λ j d. ap (λ (y : Reading). y .payload) (others j d)));
+              (ap (λ (y : Handed). bytesOf y) new) (λ j d. ap (λ (y : Handed). bytesOf y) (others j d)));
           told = ap (λ (l : List ℕ). set l (r .sector) 1) (i .told)
               ∙ set-append-left (tab (sectorsOf track) (statusBy (i .done))) (drop (sectorsOf track) statuses₀) (r .sector) 1
               (omega (arith, length-tab (sectorsOf track) (statusBy (i .done)), next .sector))
@@ -210,14 +208,14 @@ module _ {ring : List ℕ} {track start : ℕ} {payloads₀ statuses₀ payloads
     found-again d =
         let same : (j : ℕ) → firstOf j (i .done) ≡ firstOf j (i .done ++ (r ∷ [])) = λ j. sym (go j (ℕ-discrete (r .sector) j)) in
         let tabs : tab (sectorsOf track) (statusBy (i .done)) ≡ tab (sectorsOf track) (statusBy (i .done ++ (r ∷ [])))
-        = tab-same (sectorsOf track) (statusBy (i .done)) (statusBy (i .done ++ (r ∷ []))) (λ j l. ap (λ (y : Reading). y .status)
+        = tab-same (sectorsOf track) (statusBy (i .done)) (statusBy (i .done ++ (r ∷ []))) (λ j l. ap (λ (y : Handed). statusOf y)
         (same j)) in
         record {
           done = i .done ++ (r ∷ []);
           passed = passes (i .passed) r next;
           laid = i .laid ∙ ap (λ (l : List ℕ). l ++ drop (256 * sectorsOf track) payloads₀)
               (joined-same (sectorsOf track) (payloadBy (i .done)) (payloadBy (i .done ++ (r ∷ [])))
-              (λ j l. ap (λ (y : Reading). y .payload) (same j)));
+              (λ j l. ap (λ (y : Handed). bytesOf y) (same j)));
           told = i .told ∙ ap (λ (l : List ℕ). l ++ drop (sectorsOf track) statuses₀) tabs;
           count = (let e : n + 0 ≡ n = omega arith in e) ∙ i .count ∙ ap (countOf 1) tabs;
         }

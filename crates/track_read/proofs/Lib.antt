@@ -1,3 +1,4 @@
 pub mod ReadingLaws
 pub mod Keeping
 pub mod Refusing
+pub mod StatusLaws

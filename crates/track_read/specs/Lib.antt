@@ -1,3 +1,3 @@
 pub mod Reading
 pub mod Answers
-pub mod Helpers
+pub mod Inside

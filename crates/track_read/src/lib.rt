@@ -1,30 +1,17 @@
 // Reading a track: each sector by its first record.
 ghost use mathlib.Core.Path.{_≡_};
-ghost use mathlib.Core.List.{_++_};
 ghost use Prim.Native.Nat.{_+_, _*_, _≤_, _<_};
-ghost use lib.ListN.{length, drop, replicate};
+ghost use lib.ListN.{length};
 ghost use Rattle.geometry.specs.Zones.{sectorsOf};
 ghost use Rattle.ring.specs.Bit.{IsRing};
-ghost use Rattle.track_read.specs.Answers.{trackRead, trackPayloads, trackStatuses};
-ghost use Rattle.track_read.specs.Helpers.{Kept, ReadInto};
+ghost use Rattle.track_read.specs.Answers.{trackRead, trackPayloads, trackStatuses, ringStatuses};
+ghost use Rattle.track_read.specs.Inside.{Kept, ReadInto};
 use scan::SectorRecord;
 
 // What reading a track answers: the number of sectors found, or a refusal number.
 pub enum TrackRead {
     Found(usize),
     Refused(u8),
-}
-
-// The first n bytes made `value`.
-pub fn fill(out: &mut [u8], n: usize, value: u8)
-    requires { ⌜ n ≤ length (now out) ⌝ }
-    ensures { λ r. ⌜ now (out .exit) ≡ replicate n value ++ drop n (now (out .entry)) ⌝ }
-{
-    let mut i: usize = 0;
-    while i < n {
-        out[i] = value;
-        i += 1;
-    }
 }
 
 // A sector's status: handed out, or missing.
@@ -43,7 +30,7 @@ fn keep_first(payloads: &mut [u8], statuses: &mut [u8], row: SectorRecord) -> us
         return 0;
     }
     let payload = row.payload;
-    scan::store(payloads, 256 * sector, &payload);
+    base::store(payloads, 256 * sector, &payload);
     statuses[sector] = HANDED_OUT;
     1
 }
@@ -62,8 +49,8 @@ fn read_records(
         (now (payloads .exit)) (now (statuses .exit)) r ⌝ }
 {
     let count = geometry::sectors_per_track(track) as usize;
-    fill(payloads, 256 * count, 0);
-    fill(statuses, count, MISSING);
+    base::fill(payloads, 0, 256 * count, 0);
+    base::fill(statuses, 0, count, MISSING);
     let bits = 8 * ring.len();
     let start = start_bit % bits;
     let end = start + bits;
@@ -100,11 +87,20 @@ pub fn decode_track_from(
     if statuses.len() < count {
         return TrackRead::Refused(base::NO_ROOM);
     }
-    if ring.len() == 0 {
-        return TrackRead::Refused(base::RING_EMPTY);
-    }
-    if base::MAX_RING < ring.len() {
-        return TrackRead::Refused(base::RING_TOO_LONG);
+    let number = ring::refusal_of(ring.len());
+    if number != 0 {
+        return TrackRead::Refused(number);
     }
     TrackRead::Found(read_records(ring, track, start_bit, payloads, statuses))
+}
+
+// The statuses of a ring's sectors. A ring that cannot be read is refused, which leaves the zeros.
+pub fn ring_statuses(ring: &[u8], track: u8, part: &mut [u8])
+    requires { ⌜ length (now part) ≡ sectorsOf track ⌝ }
+    ensures { λ r. ⌜ now (part .exit) ≡ ringStatuses (now (ring .entry)) track ⌝ }
+{
+    let mut payloads = [0u8; 5376];
+    let count = part.len();
+    base::fill(part, 0, count, 0);
+    decode_track_from(ring, track, 0, &mut payloads, part);
 }

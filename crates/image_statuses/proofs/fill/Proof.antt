@@ -1,9 +1,8 @@
-use mathlib.Core.Path.{_∙_, ap}
-use mathlib.Core.List.{List, _++_, append-nil}
+use mathlib.Core.Path.{_∙_}
 use Prim.Native.Nat.{ℕ}
 use borrow.Author.Needs.{needs}
-use lib.ListN.{length, replicate}
-use lib.Seq.{drop-length}
+use lib.ListN.{length, replicate, length-replicate}
+use Rattle.base.proofs.InRow.{sets-whole}
 use Rattle.image_statuses.proofs.fill.Statement.{statement}
 use Rattle.image_statuses.proofs.fill.Tie as tie
 
@@ -17,8 +16,7 @@ returns : tie.Need-returns
 returns c =
     let a = c .before .before .before .before .before .args in
     c .before .before .fill .ensures
-    ∙ ap (λ (l : List ℕ). replicate (length (a .part .now)) (a .v) ++ l) (drop-length (a .part .now))
-    ∙ append-nil (replicate (length (a .part .now)) (a .v))
+    ∙ sets-whole (replicate (length (a .part .now)) (a .v)) (a .part .now) (length-replicate {A = ℕ} (length (a .part .now)) (a .v))
 
 pub fill-spec : {M : Type 1} → statement M
 fill-spec = tie.close (tie.spec fill-requires same-length returns)

@@ -3,7 +3,8 @@ use Prim.Native.Nat.{ℕ}
 use mathlib.Core.List.{List}
 use mathlib.Core.Path.{sym, ap, _∙_}
 use Rattle.nib_slots.specs.Slots.{ringOf}
-use Rattle.image_statuses.specs.Statuses.{ringStatuses, g64Ring}
+use Rattle.track_read.specs.Answers.{ringStatuses}
+use Rattle.image_statuses.specs.Statuses.{g64Ring}
 use Rattle.image_kind.proofs.KindLaws.{d64-highest}
 use Rattle.image_statuses.proofs.StatusLaws.{no-track, by-kind}
 use borrow.Author.Needs.{needs}

@@ -4,7 +4,7 @@ use native.Mathlib.Omega.{arith}
 use borrow.Author.Needs.{needs}
 use lib.ListN.{length}
 use Rattle.page_text.specs.Put.{Put}
-use Rattle.lister.specs.Lines.{lines}
+use Rattle.lister.specs.Inside.{lines}
 use Rattle.lister.proofs.Putting.{lines-none, lines-more, lines-long}
 use Rattle.lister.proofs.put_sectors.Statement.{statement}
 use Rattle.lister.proofs.put_sectors.Tie as tie

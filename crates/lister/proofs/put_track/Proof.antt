@@ -6,7 +6,7 @@ use borrow.Author.Needs.{needs}
 use Rattle.page_text.specs.Put.{Put}
 use Rattle.page_text.proofs.PutLaws.{put-more}
 use Rattle.lister.specs.Listing.{headLine}
-use Rattle.lister.specs.Lines.{lines}
+use Rattle.lister.specs.Inside.{lines}
 use Rattle.lister.proofs.Putting.{head-long}
 use Rattle.lister.proofs.put_track.Statement.{statement}
 use Rattle.lister.proofs.put_track.Tie as tie

@@ -1,5 +1,6 @@
 use borrow.Author.Tests.{not-true, not-false}
 use Rattle.ring.specs.Bit.{bitAt}
+use Rattle.scan.specs.Scan.{mostRecords}
 use Rattle.scan.proofs.NextLaws.{NextIs, next-some, next-none}
 use Rattle.scan.proofs.Passing.{endOf}
 use Prim.Native.Nat.{_*_, _-_, _<_}
@@ -65,7 +66,7 @@ put-row-requires : tie.Need-put-row-requires Inv-loop μ-loop
 put-row-requires c κs =
     let y = to-row (c .before .before) in
     let l = at-loop y in
-    let n : l .loop .n < 195 = one-more (l .loop .inv) (start l .pre .0 .small) _ (next-is y) in (
+    let n : l .loop .n < mostRecords = one-more (l .loop .inv) (start l .pre .0 .small) _ (next-is y) in (
       omega (arith, rows-kept (l .loop .inv) (omega (arith, start l .pre .1)), start l .pre .1),
       omega (arith, payloads-kept (l .loop .inv) (omega (arith, start l .pre .1)), start l .pre .1, next-is y .long),
     )

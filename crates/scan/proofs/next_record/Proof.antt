@@ -9,7 +9,8 @@ use Rattle.scan_sync.specs.declared.SyncEnd.the-variants.{At}
 use Rattle.scan_visit.specs.declared.HeaderAt.the-variants.{Sector}
 use Rattle.scan_sync.specs.Sync.{syncEnd}
 use Rattle.scan_visit.specs.Visit.{visit}
-use Rattle.scan.specs.Scan.{recordsFrom}
+use Rattle.scan.specs.Scan.{pastEnd, recordsFrom}
+use Rattle.scan.specs.Inside.{aNext}
 use Rattle.scan_visit.specs.Answers.{headerAnswer}
 use Rattle.scan.specs.Answers.{nextOf}
 use Rattle.scan.proofs.ScanLaws.{found-sync}
@@ -40,7 +41,7 @@ in-data c = c .before .before .before .before
 -- what each call said
 sync-is : (c : tie.After-sync Inv-scan μ-scan)
     → let a = start (in-sync c) .args in
-    let b = in-sync c .before .scan .bit in syncEnd (bitAt (a .ring .now)) b (a .end + 16 - b) ≡ At (c .sync .given .0 .0)
+    let b = in-sync c .before .scan .bit in syncEnd (bitAt (a .ring .now)) b (a .end + pastEnd - b) ≡ At (c .sync .given .0 .0)
 sync-is c = sym (c .before .before .find-sync-end .ensures) ∙ c .sync .given .1
 
 head-is : (c : tie.After-head Inv-scan μ-scan)
@@ -153,14 +154,17 @@ cast-a-record c = search needs
 a-record-requires : tie.Need-a-record-requires Inv-scan μ-scan
 a-record-requires c κs = search needs
 
+a-next-requires : tie.Need-a-next-requires Inv-scan μ-scan
+a-next-requires c κs = search needs
+
 returns : tie.Need-returns Inv-scan μ-scan
 returns c =
-    let d = c .before .before .before .before .before .before in
+    let d = c .before .before .before .before .before .before .before in
     let y = in-head (in-data d) in
-    let o = c .before .before .before .before .data-at in
-    let e = c .a-record .ensures in (
+    let o = c .before .before .before .before .before .data-at in
+    let e = c .a-next .ensures ∙ ap aNext (c .before .a-record .ensures) in (
       e ∙ ap nextOf (sym (good-block _ _ _ _ (within (in-sync y) .0) _ (sync-is y) _ (head-is (in-data d)) _ (data-is d) _ (o .ensures)
-          (c .before .before .enum-told4 .given .1))
+          (c .before .before .before .enum-told4 .given .1))
           ∙ in-sync y .before .scan .inv),
       rw e (omega (arith, place-in d)),
     )
@@ -239,6 +243,7 @@ next-record-spec =
     enum-told-4
     cast-a-record
     a-record-requires
+    a-next-requires
     returns
     enum-told-5
     add-bit-3

@@ -54,7 +54,7 @@ use denote.Exit.{yes}
 use Rattle.ring.specs.Bit.{IsRing, bits}
 use Rattle.scan.specs.declared.SectorRecord.{SectorRecord}
 use Rattle.scan.specs.declared.NextRecord.{NextRecord}
-use Rattle.scan.specs.Scan.{records}
+use Rattle.scan.specs.Scan.{records, mostRecords}
 use Rattle.scan.proofs.NextRecord as N
 use Rattle.scan.proofs.NextRecord.Laws as N′
 use Rattle.scan.proofs.Passing.{endOf}
@@ -194,7 +194,7 @@ module _ {M : Type 1} (𝓤 : URA M) (H : Heap 𝓤) (A : Atoms 𝓤) (W : Given
 
   module _ (𝓣 : Tables 𝓤 H) (next-known : Triple 𝓤 (𝓣 .C #scan·next-record) (NextRec 𝓤 H A mem run))
       (store-known : Triple 𝓤 (𝓣 .C #rows·store-row) (StoreRow 𝓤 H A mem run)) where
-    walk : Room u8 (length ring) → t < 2 ^ 8 → s₀ < 2 ^ 64 → Room R (length ys) → IsRing ring × (195 ≤ length ys)
+    walk : Room u8 (length ring) → t < 2 ^ 8 → s₀ < 2 ^ 64 → Room R (length ys) → IsRing ring × (mostRecords ≤ length ys)
         → ent 𝓤 (onEntry 𝓤 H A list-rows.signature (κ₀, (κ, tt)) (q₀, (q, tt)) a vals)
         (WpFn 𝓤 H (𝓣 .C) (𝓣 .Λ) code.function (sr ∷ vint w8 t ∷ vint w64 s₀ ∷ s ∷ []) Post)
     unfolding afterTurn
@@ -346,7 +346,7 @@ module _ {M : Type 1} (𝓤 : URA M) (H : Heap 𝓤) (A : Atoms 𝓤) (W : Given
       walked 𝓤 H A list-rows.ended stayed (list-rows.clauses 𝓤 H A mem run) (WpFn 𝓤 H (𝓣 .C) (𝓣 .Λ) code.function)
       (λ κs. (slice-vals, (uint-vals w8, (uint-vals w64, (slice-vals, tt)))))
       (λ κs. (shr-slice-tells (named 0) (κs .0) u8, (uint-tells w8, (uint-tells w64, (mut-slice-tells (named 1) (κs .1 .0) R, tt)))))
-      (λ κs qs bounds a g are. needs 𝓤 (IsRing (a .0 .now) × (195 ≤ length (a .1 .1 .1 .0 .now))) _
+      (λ κs qs bounds a g are. needs 𝓤 (IsRing (a .0 .now) × (mostRecords ≤ length (a .1 .1 .1 .0 .now))) _
       (walk 𝓤 H A W mem run (κs .0) (κs .1 .0) (qs .0) (qs .1 .0) (a .0) (a .1 .0) (a .1 .1 .0) (a .1 .1 .1 .0 .ptr .0)
       (a .1 .1 .1 .0 .ptr .1)
       (a .1 .1 .1 .0 .name) (a .1 .1 .1 .0 .now) 𝓣 known₁ known₂ (are .0 .0 .1) (are .1 .0 .1) (are .1 .1 .0 .1) (are .1 .1 .1 .0 .0 .1)))

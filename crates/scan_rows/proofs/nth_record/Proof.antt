@@ -58,9 +58,10 @@ use Rattle.scan.proofs.SectorRecord.Laws as T′
 use Rattle.scan.proofs.Scanned as E
 use Rattle.scan.proofs.Scanned.Laws as E′
 use Rattle.scan_rows.specs.declared.Row.{Row}
-use Rattle.scan_rows.specs.RowAt.{zeros, rowAt}
-use Rattle.scan_rows.specs.Answers.{scannedInto, rowsAfter}
-use Rattle.scan_rows.specs.Nth.{ofScan, recordsOrNone}
+use Rattle.scan.specs.Scan.{zeroRecord}
+use Rattle.scan_rows.specs.Rows.{rowAt}
+use Rattle.scan_rows.specs.Answers.{scannedInto, rowsAfter, nthRecord}
+use Rattle.scan_rows.specs.Inside.{ofScan}
 use Rattle.scan_rows.proofs.Row as Q
 use Rattle.scan_rows.proofs.Row.Laws as Q′
 use Rattle.scan_rows.proofs.Records.{R}
@@ -70,10 +71,10 @@ use Rattle.scan_rows.proofs.NthCalls.{S, told, made, Answer, made-answe
 use Rattle.scan_rows.proofs.NthCalls.{to-zero, goes-zero}
 use Rattle.scan_rows.proofs.NthCalls.{of-zero, Lent, scan-arg, to-scan, goes-scan, Into, Shared, read-arg, to-read, goes-read, of-read}
 use Rattle.scan_rows.proofs.NthCalls.{of-arg, to-of, goes-of, of-of}
-use Rattle.scan_rows.proofs.zero_record as zero-record
-use Rattle.scan_rows.proofs.zero_record.Symbol as zero-record-def
-use Rattle.scan_rows.proofs.zero_record.Symbol.{name as #rowread·zero-record}
-use Rattle.scan_rows.proofs.zero_record.Met as zero-record-thm
+use Rattle.scan.proofs.zero_record as zero-record
+use Rattle.scan.proofs.zero_record.Symbol as zero-record-def
+use Rattle.scan.proofs.zero_record.Symbol.{name as #scan·zero-record}
+use Rattle.scan.proofs.zero_record.Met as zero-record-thm
 use Rattle.scan_rows.proofs.scan_into_rows as scan-into-rows
 use Rattle.scan_rows.proofs.scan_into_rows.Symbol as scan-into-rows-def
 use Rattle.scan_rows.proofs.scan_into_rows.Symbol.{name as #rows·scan-into-rows}
@@ -112,7 +113,7 @@ stayed = (
 
 module _ {M : Type 1} (𝓤 : URA M) (H : Heap 𝓤) (A : Atoms 𝓤) (W : Given 𝓤 H A) (mem : Memory → SProp 𝓤) (run : Routine → Fun 𝓤)
     (κ : Lft) (q : Share) (xr : RefT (List ℕ)) (t s₀ n : ℕ)
-    (start : List SectorRecord) (start-length : length start ≡ 195) (start-is : replicate 195 zeros ≡ start) where
+    (start : List SectorRecord) (start-length : length start ≡ 195) (start-is : replicate 195 zeroRecord ≡ start) where
   abbrev ring : List ℕ
   ring = xr .now
 
@@ -143,12 +144,12 @@ module _ {M : Type 1} (𝓤 : URA M) (H : Heap 𝓤) (A : Atoms 𝓤) (W : Given
 
   -- the answer, by what the three callees say
   is-nth : (zs : List SectorRecord) (r₁ : Scanned) (r₂ r : Row) → (r₁ ≡ scannedInto ring t s₀ start) × (zs ≡ rowsAfter ring t s₀ start)
-      → r₂ ≡ rowAt zs n → r ≡ ofScan r₂ n r₁ → r ≡ rowAt (recordsOrNone ring t s₀) n
+      → r₂ ≡ rowAt zs n → r ≡ ofScan r₂ n r₁ → r ≡ nthRecord ring t s₀ n
   is-nth zs r₁ r₂ r e e₂ e₃ =
       e₃ ∙ ap (λ (y : Row). ofScan y n r₁) (e₂ ∙ ap (λ (l : List SectorRecord). rowAt l n) (e .1))
       ∙ ap (ofScan (rowAt (rowsAfter ring t s₀ start) n) n) (e .0) ∙ nth ring t s₀ start start-length n
 
-  exits : (r : Row) → r ≡ rowAt (recordsOrNone ring t s₀) n → Is S r (told r ∷ []) → t < 2 ^ 8 → s₀ < 2 ^ 64 → n < 2 ^ 64
+  exits : (r : Row) → r ≡ nthRecord ring t s₀ n → Is S r (told r ∷ []) → t < 2 ^ 8 → s₀ < 2 ^ 64 → n < 2 ^ 64
       → ent 𝓤 (⋆ 𝓤 H A (‵ (flft κ q) ∷ ‵ Ring ∷ [])) (Post (told r))
   exits r e is t-fits s-fits n-fits =
       qed W (‵ (flft κ q) ∷ ‵ Ring ∷ []) ∵
@@ -161,7 +162,7 @@ module _ {M : Type 1} (𝓤 : URA M) (H : Heap 𝓤) (A : Atoms 𝓤) (W : Given
       owned ! S (Is S) (LL.makes Q.the-type Q′.the-plain 𝓤 H A) r _ is $ done !
 
   module _ (C : Calls 𝓤 H) (Λ : Loops 𝓤 H) (fm : FmC 𝓤 H (W .laws) C)
-      (zero-known : Triple 𝓤 (C #rowread·zero-record) (ZeroRecord 𝓤 H A mem run))
+      (zero-known : Triple 𝓤 (C #scan·zero-record) (ZeroRecord 𝓤 H A mem run))
       (scan-known : Triple 𝓤 (C #rows·scan-into-rows) (ScanInto 𝓤 H A mem run))
       (read-known : Triple 𝓤 (C #rowread·read-row) (ReadRow 𝓤 H A mem run))
       (of-known : Triple 𝓤 (C #rowread·of-scan) (OfScan 𝓤 H A mem run)) where
@@ -185,21 +186,21 @@ module _ {M : Type 1} (𝓤 : URA M) (H : Heap 𝓤) (A : Atoms 𝓤) (W : Given
         calls-at ! fm (ZeroRecord 𝓤 H A mem run) zero-known (to-zero 𝓤 H A W mem run) (no-more !) (λ w.
         use1 W (later (some (λ (r : SectorRecord). (‵ ftrue ⊛ ‵ (R .own r (w ∷ [])))
         ⊛ raw (ensured 𝓤 H A zero-record.ended (zero-record.clauses 𝓤 H A mem run) tt tt tt r)))) (id⊢ 𝓤 _) $ await ! tt $ pick ! (λ r.
-        split ! $ move ! (1 ∷ []) $ use1 W (raw (fact 𝓤 (r ≡ zeros))) (of-zero 𝓤 H A W mem run r) $ heard ! (r ≡ zeros) (λ er.
+        split ! $ move ! (1 ∷ []) $ use1 W (raw (fact 𝓤 (r ≡ zeroRecord))) (of-zero 𝓤 H A W mem run r) $ heard ! (r ≡ zeroRecord) (λ er.
         split ! $ drop ! $ peeks ! R (Is R) (shows 𝓤 H A R) r (w ∷ []) (λ is.
         land ! (from ! (stop !)) (init ! 10 refl (LL.lawful T.the-type T′.the-laws 𝓤 H A W .typed r _ is .0)) $
         rewrite ! 0 (λ (d : SectorRecord). ‵ (R .own d (w ∷ []))) er refl $
         -- the array of 195 records of zeros: what it owns is made first, for the typing of its value
-        use1 W (‵ (Array R 195 .own (replicate 195 zeros) (arrayVal (replicate 195 w) ∷ [])))
-        (array-repeat 𝓤 H A W R (LL.copy T.the-type T′.the-copy 𝓤 H A W) 195 zeros w) $
-        peeks ! (Array R 195) (Is (Array R 195)) (shows 𝓤 H A (Array R 195)) (replicate 195 zeros) (arrayVal (replicate 195 w) ∷ []) (λ isA.
+        use1 W (‵ (Array R 195 .own (replicate 195 zeroRecord) (arrayVal (replicate 195 w) ∷ [])))
+        (array-repeat 𝓤 H A W R (LL.copy T.the-type T′.the-copy 𝓤 H A W) 195 zeroRecord w) $
+        peeks ! (Array R 195) (Is (Array R 195)) (shows 𝓤 H A (Array R 195)) (replicate 195 zeroRecord) (arrayVal (replicate 195 w) ∷ []) (λ isA.
         assigns ! (rep ! 195 (load ! (from ! (stop !)) (look ! 10 refl))) (from ! (stop !)) (init ! 9 refl
-        (array-lawful 𝓤 H A W R (LL.lawful T.the-type T′.the-laws 𝓤 H A W) 195 .typed (replicate 195 zeros) _ isA .0)) $
+        (array-lawful 𝓤 H A W R (LL.lawful T.the-type T′.the-laws 𝓤 H A W) 195 .typed (replicate 195 zeroRecord) _ isA .0)) $
         assigns ! (addr ! (from ! (stop !))) (from ! (stop !)) (init ! 6 refl (tt, tt)) $
         assigns ! (agg ! (and-then ! (load ! (from ! (stop !)) (look ! 6 refl)) (and-then ! (lit ! tt) (no-more !)))) (from ! (stop !))
         (init ! 5 refl (tt, (tt, (record { fits = lit< tt }, tt)))) $
-        move ! (9 ∷ 0 ∷ []) $ use2 W (‵ (cells (memOf R) (replicate 195 zeros) l₆ 0))
-        (lay 𝓤 H A W 195 (replicate 195 zeros) l₆ (arrayVal (replicate 195 w))) $
+        move ! (9 ∷ 0 ∷ []) $ use2 W (‵ (cells (memOf R) (replicate 195 zeroRecord) l₆ 0))
+        (lay 𝓤 H A W 195 (replicate 195 zeroRecord) l₆ (arrayVal (replicate 195 w))) $
         rewrite ! 0 (λ (ws : List SectorRecord). ‵ (cells (memOf R) ws l₆ 0)) start-is refl $
         rewrite ! 5 (λ (m : ℕ). ‵ (fat fullShare (sliceTy lentRef) l₁₀ 0 (sliceVal (l₆, 0) m))) (sym start-length) refl $
         -- [the elements; κ's token; ring's; _12; …; _7; _5; …; _0; …]: they are lent for a lifetime ν of the call
@@ -285,7 +286,7 @@ module _ {M : Type 1} (𝓤 : URA M) (H : Heap 𝓤) (A : Atoms 𝓤) (W : Given
         n-fits)))))))))))))))))))))))))))))))))))))
 
 module _ {M : Type 1} (𝓤 : URA M) (H : Heap 𝓤) (A : Atoms 𝓤) (W : Given 𝓤 H A) (mem : Memory → SProp 𝓤) (run : Routine → Fun 𝓤) where
-  nth-record-walks : (C : Calls 𝓤 H) (Λ : Loops 𝓤 H) → FmC 𝓤 H (W .laws) C → Triple 𝓤 (C #rowread·zero-record) (ZeroRecord 𝓤 H A mem run)
+  nth-record-walks : (C : Calls 𝓤 H) (Λ : Loops 𝓤 H) → FmC 𝓤 H (W .laws) C → Triple 𝓤 (C #scan·zero-record) (ZeroRecord 𝓤 H A mem run)
       → Triple 𝓤 (C #rows·scan-into-rows) (ScanInto 𝓤 H A mem run) → Triple 𝓤 (C #rowread·read-row) (ReadRow 𝓤 H A mem run)
       → Triple 𝓤 (C #rowread·of-scan) (OfScan 𝓤 H A mem run)
       → Walks 𝓤 H A nth-record.ended stayed (WpFn 𝓤 H C Λ code.function) (nth-record.clauses 𝓤 H A mem run)
@@ -294,11 +295,11 @@ module _ {M : Type 1} (𝓤 : URA M) (H : Heap 𝓤) (A : Atoms 𝓤) (W : Given
       (λ κs. (slice-vals, (uint-vals w8, (uint-vals w64, (uint-vals w64, tt)))))
       (λ κs. (shr-slice-tells (named 0) (κs .0) u8, (uint-tells w8, (uint-tells w64, (uint-tells w64, tt)))))
       (λ κs qs bounds a g are. via 𝓤 _ (fst∗ 𝓤 _ (emp 𝓤))
-      (walk 𝓤 H A W mem run (κs .0) (qs .0) (a .0) (a .1 .0) (a .1 .1 .0) (a .1 .1 .1 .0) (replicate 195 zeros) refl refl C Λ fm
+      (walk 𝓤 H A W mem run (κs .0) (qs .0) (a .0) (a .1 .0) (a .1 .1 .0) (a .1 .1 .1 .0) (replicate 195 zeroRecord) refl refl C Λ fm
       known₁ known₂ known₃ known₄ (are .0 .0 .1) (are .1 .0 .1) (are .1 .1 .0 .1) (are .1 .1 .1 .0 .1)))
 
 nth-record-meets : {M : Type 1} (𝓤 : URA M) (H : Heap 𝓤) (A : Atoms 𝓤) → Given 𝓤 H A → (mem : Memory → SProp 𝓤) (run : Routine → Fun 𝓤)
-    (𝓣 : Tables 𝓤 H) → Triple 𝓤 (𝓣 .C #rowread·zero-record) (ZeroRecord 𝓤 H A mem run)
+    (𝓣 : Tables 𝓤 H) → Triple 𝓤 (𝓣 .C #scan·zero-record) (ZeroRecord 𝓤 H A mem run)
     → Triple 𝓤 (𝓣 .C #rows·scan-into-rows) (ScanInto 𝓤 H A mem run) → Triple 𝓤 (𝓣 .C #rowread·read-row) (ReadRow 𝓤 H A mem run)
     → Triple 𝓤 (𝓣 .C #rowread·of-scan) (OfScan 𝓤 H A mem run)
     → Meets 𝓤 H A nth-record.signature (WpFn 𝓤 H (𝓣 .C) (𝓣 .Λ) code.function) (nth-record.spec 𝓤 H A mem run)
@@ -322,8 +323,8 @@ nth-record-spec 𝓤 H 𝓜 𝓖 𝓡 =
     entered 𝓤 H (tripleOf 𝓤 H (𝓖 .A) nth-record.signature (nth-record.spec 𝓤 H (𝓖 .A) (𝓜 .mem) (𝓡 .run)))
     (tables 𝓤 H 𝓜 𝓡 code.env .C) (tables 𝓤 H 𝓜 𝓡 code.env .Λ) #rowread·nth-record code.function (code.unfolded 𝓤 H 𝓜 𝓡)
     (nth-record-meets 𝓤 H (𝓖 .A) (givenOf 𝓤 H 𝓜 𝓖) (𝓜 .mem) (𝓡 .run) (tablesOf 𝓤 H 𝓜 (tables 𝓤 H 𝓜 𝓡 code.env))
-    (cited 𝓤 H (ZeroRecord 𝓤 H (𝓖 .A) (𝓜 .mem) (𝓡 .run)) 𝓜 𝓡 code.env #rowread·zero-record zero-record-def.routine
-    code.calls-scan-rows·zero-record (zero-record-thm.met 𝓤 H 𝓜 𝓖 𝓡))
+    (cited 𝓤 H (ZeroRecord 𝓤 H (𝓖 .A) (𝓜 .mem) (𝓡 .run)) 𝓜 𝓡 code.env #scan·zero-record zero-record-def.routine
+    code.calls-scan·zero-record (zero-record-thm.met 𝓤 H 𝓜 𝓖 𝓡))
     (cited 𝓤 H (ScanInto 𝓤 H (𝓖 .A) (𝓜 .mem) (𝓡 .run)) 𝓜 𝓡 code.env #rows·scan-into-rows scan-into-rows-def.routine
     code.calls-scan-rows·scan-into-rows (scan-into-rows-thm.met 𝓤 H 𝓜 𝓖 𝓡))
     (cited 𝓤 H (ReadRow 𝓤 H (𝓖 .A) (𝓜 .mem) (𝓡 .run)) 𝓜 𝓡 code.env #rowread·read-row read-row-def.routine

@@ -48,8 +48,8 @@ use Rattle.scan.specs.declared.SectorRecord.{SectorRecord}
 use Rattle.scan.proofs.SectorRecord as T
 use Rattle.scan.proofs.SectorRecord.Laws as T′
 use Rattle.scan_rows.specs.declared.Row.{Row}
-use Rattle.scan_rows.specs.Rows.{hasRow}
-use Rattle.scan_rows.specs.RowAt.{zeros, aRow, noRow, rowAt}
+use Rattle.scan.specs.Scan.{zeroRecord}
+use Rattle.scan_rows.specs.Rows.{hasRow, aRow, noRow, rowAt}
 use Rattle.scan_rows.proofs.Row as Q
 use Rattle.scan_rows.proofs.Row.Laws as Q′
 use Rattle.scan_rows.proofs.Records.{R, mach, scaled, picks, passes}
@@ -100,7 +100,7 @@ module _ {M : Type 1} (𝓤 : URA M) (H : Heap 𝓤) (A : Atoms 𝓤) (W : Given
 
   -- row n, and the answer
   abbrev elem : SectorRecord
-  elem = getD ys n zeros
+  elem = getD ys n zeroRecord
 
   abbrev answer : Row
   answer = rowAt ys n
@@ -174,12 +174,12 @@ module _ {M : Type 1} (𝓤 : URA M) (H : Heap 𝓤) (A : Atoms 𝓤) (W : Given
         rewrite ! 8 (λ (p : ℕ). ‵ (fat fullShare tyPtr l₇ 0 (vptr b p))) (sym (place-is 272 o n)) refl $
         looks-slice ! tt R (Is R) (shows 𝓤 H A R) (LL.vals T.the-type T′.the-laws) (LL.tells T.the-type T′.the-laws)
         (LL.copy T.the-type T′.the-copy 𝓤 H A W) ys b o (λ q′.
-        elem-out ! R (Is R) (shows 𝓤 H A R) (LL.vals T.the-type T′.the-laws) (LL.tells T.the-type T′.the-laws) q′ ys n zeros b o within
+        elem-out ! R (Is R) (shows 𝓤 H A R) (LL.vals T.the-type T′.the-laws) (LL.tells T.the-type T′.the-laws) q′ ys n zeroRecord b o within
         (λ g.
         -- [rows[n]; what it owns; the others; what shuts; the fractured borrow; true; res; rows's fact; n's; _8; …; _0; …]
         assigns ! (of-opd ! (load ! (from ! (hop ! (look ! 11 refl) (stop !))) (look-raw ! 0 refl))) (from ! (stop !))
         (init ! 9 refl (LL.lawful T.the-type T′.the-laws 𝓤 H A W .typed elem _ g .0)) $
-        elem-back ! R q′ ys n zeros (mach elem ∷ []) b o within $ shuts-slice ! tt R q′ ys b o $
+        elem-back ! R q′ ys n zeroRecord (mach elem ∷ []) b o within $ shuts-slice ! tt R q′ ys b o $
         -- [the token; the fractured borrow; true; res; rows's fact; n's; _8; …; _0; …]
         use0 W (raw (ARow 𝓤 H A mem run .pre to-a-row)) (goes-a-row g) $
         calls-at-last ! fm (ARow 𝓤 H A mem run) a-row-known to-a-row (and-then ! (load ! (from ! (stop !)) (look ! 7 refl)) (no-more !))

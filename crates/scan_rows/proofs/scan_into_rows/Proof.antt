@@ -51,11 +51,12 @@ use Rattle.ring.specs.Bit.{IsRing}
 use Rattle.scan.specs.declared.SectorRecord.{SectorRecord}
 use Rattle.scan.specs.declared.Scanned.{Scanned}
 use Rattle.scan.specs.declared.Scanned.the-variants.{Records, Refused}
-use Rattle.scan.specs.Scan.{records}
+use Rattle.scan.specs.Scan.{records, mostRecords}
 use Rattle.scan.proofs.Scanned as E
 use Rattle.scan.proofs.Scanned.Laws as E′
 use Rattle.scan_rows.specs.Rows.{laid}
-use Rattle.scan_rows.specs.Answers.{refusalOf, scannedInto, rowsAfter}
+use Rattle.scan_rows.specs.Answers.{scannedInto, rowsAfter}
+use Rattle.scan_rows.specs.Inside.{refusalOf}
 use Rattle.scan_rows.proofs.Records.{R, picks, passes}
 use Rattle.scan_rows.proofs.Again.{LentAgain, lends-again, comes-back}
 use Rattle.scan_rows.proofs.Refusing.{answer-by, rows-by, taken}
@@ -183,7 +184,7 @@ module _ {M : Type 1} (𝓤 : URA M) (H : Heap 𝓤) (A : Atoms 𝓤) (W : Given
   abbrev to-list : ℕ → GName → ListRows 𝓤 H A mem run .Ghost
   to-list ν δ = (((κ₀, (ν ∷ [], tt)), (q₀, (fullShare, tt)), tt, a δ, vals), tt)
 
-  goes-list : (ν : ℕ) (δ : GName) → IsRing ring × (195 ≤ length ys) → t < 2 ^ 8 → s₀ < 2 ^ 64
+  goes-list : (ν : ℕ) (δ : GName) → IsRing ring × (mostRecords ≤ length ys) → t < 2 ^ 8 → s₀ < 2 ^ 64
       → ent 𝓤 (sep 𝓤 (sem 𝓤 H A (fsep Ring (Lent ν δ))) (sep 𝓤 (A .lft κ₀ q₀) (A .lft (ν ∷ []) fullShare)))
       (ListRows 𝓤 H A mem run .pre (to-list ν δ))
   goes-list ν δ asked t-fits s-fits =
@@ -197,7 +198,7 @@ module _ {M : Type 1} (𝓤 : URA M) (H : Heap 𝓤) (A : Atoms 𝓤) (W : Given
   Listed r l = (r ≡ length (records ring t s₀)) × (l ≡ laid (records ring t s₀) ys)
 
   -- ---- what the two arms end with
-  goes-on : (k : ℕ) → k ≡ number → Holds (eqb k 0) → IsRing ring × (195 ≤ length ys)
+  goes-on : (k : ℕ) → k ≡ number → Holds (eqb k 0) → IsRing ring × (mostRecords ≤ length ys)
   goes-on k e h = taken ring t s₀ ys (subst (λ (y : ℕ). Holds (eqb y 0)) e h)
 
   listed-answer : (k : ℕ) → k ≡ number → Holds (eqb k 0) → (r : ℕ) → r ≡ length (records ring t s₀) → Records r ≡ scannedInto ring t s₀ ys

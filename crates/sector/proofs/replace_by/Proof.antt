@@ -2,7 +2,8 @@ use mathlib.Core.Path.{sym, _∙_}
 use Rattle.ring.specs.Bit.{IsRing}
 use Rattle.ring.proofs.RingRefusals.{is-ring}
 use Rattle.sector.specs.Rules.{ruleOf}
-use Rattle.sector.proofs.RuleLaws.{no-ring, decided-read, small-places, refused-by, rewritten-by}
+use Rattle.sector.proofs.SectorLaws.{no-ring}
+use Rattle.sector.proofs.RuleLaws.{decided-read, small-places, refused-by, rewritten-by}
 use borrow.Author.Needs.{needs}
 use Rattle.sector.proofs.replace_by.Statement.{statement}
 use Rattle.sector.proofs.replace_by.Tie as tie

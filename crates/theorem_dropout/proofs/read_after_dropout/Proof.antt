@@ -1,6 +1,5 @@
 use native.Mathlib.Omega.{arith}
-use mathlib.Core.Logic.{inl, inr}
-use Rattle.theorem_dropout.proofs.Survives.{sum-wrong, ring-short, out-short, three-calls}
+use Rattle.theorem_dropout.proofs.Survives.{sum-wrong, ring-short, out-short, statuses-short, three-calls}
 use Prim.Native.Nat.{_-_}
 use lib.Seq.{length-take-le}
 use borrow.Author.Needs.{needs}
@@ -29,16 +28,14 @@ returns-3 : tie.Need-returns-3
 returns-3 c =
     let y = c .before .before in
     out-short _ _ _ _ (y .before .before .if1 .left) (omega (arith, y .before .track-capacity .ensures, y .if2 .left))
-    (inl (omega (arith, c .before .sectors-per-track .ensures .0, c .if3 .taken)))
+    (omega (arith, c .before .sectors-per-track .ensures .0, c .if3 .taken))
 
 returns-4 : tie.Need-returns-4
 returns-4 c =
     let y = c .before .before .before in
-    out-short _ _ _ _ (y .before .before .if1 .left) (omega (arith, y .before .track-capacity .ensures, y .if2 .left))
-    (inr (
-      omega (arith, c .before .before .sectors-per-track .ensures .0, c .before .if3 .left),
-      omega (arith, c .before .before .sectors-per-track .ensures .0, c .if4 .taken),
-    ))
+    statuses-short _ _ _ _ (y .before .before .if1 .left) (omega (arith, y .before .track-capacity .ensures, y .if2 .left))
+    (omega (arith, c .before .before .sectors-per-track .ensures .0, c .before .if3 .left))
+    (omega (arith, c .before .before .sectors-per-track .ensures .0, c .if4 .taken))
 
 sub-part : tie.Need-sub-part
 sub-part c = search needs

@@ -1,6 +1,9 @@
 use native.Mathlib.Omega.{arith}
 use mathlib.Core.Logic.{inl, inr}
-use Rattle.track_read.proofs.Refusing.{read-short, read-empty, read-long, read-goes}
+use mathlib.Core.Path.{sym, _∙_}
+use Rattle.ring.specs.Bit.{IsRing}
+use Rattle.ring.proofs.RingRefusals.{is-ring}
+use Rattle.track_read.proofs.Refusing.{read-short, read-refused, read-goes}
 use borrow.Author.Needs.{needs}
 use Rattle.track_read.proofs.decode_track_from.Statement.{statement}
 use Rattle.track_read.proofs.decode_track_from.Tie as tie
@@ -24,16 +27,26 @@ returns-2 c = read-short _ _ _ _ _ (inr (
       (arith, c .before .before .sectors-per-track .ensures .0, c .if2 .taken),
 ))
 
-returns-3 : tie.Need-returns-3
-returns-3 c = let e = c .before .before .before .sectors-per-track .ensures .0 in read-empty _ _ _ _ _
-    (omega (arith, c .before .before .if1 .left)) (omega (arith, c .before .if2 .left)) (c .if3 .taken)
+refusal-of-requires : tie.Need-refusal-of-requires
+refusal-of-requires c κs = search needs
 
-returns-4 : tie.Need-returns-4
-returns-4 c = let e = c .before .before .before .before .sectors-per-track .ensures .0 in read-long _ _ _ _ _
-    (omega (arith, c .before .before .before .if1 .left)) (omega (arith, c .before .before .if2 .left)) (c .if4 .taken)
+returns-3 : tie.Need-returns-3
+returns-3 c =
+    let n = c .before in
+    let e = n .before .before .before .sectors-per-track .ensures .0 in
+    read-refused _ _ _ _ _ (omega (arith, n .before .before .if1 .left)) (omega (arith, n .before .if2 .left)) _ (n .refusal-of .ensures)
+    (c .if3 .taken)
+
+-- the ring is one
+the-ring : (c : tie.Else3) → IsRing (c .before .before .before .before .before .before .before .before .args .ring .now)
+the-ring c = is-ring _ (sym (c .before .refusal-of .ensures) ∙ c .if3 .left)
 
 read-records-requires : tie.Need-read-records-requires
-read-records-requires c κs = search needs
+read-records-requires c κs =
+    let y = c .before .before in
+    let n = y .before in
+    let e = n .before .before .before .sectors-per-track .ensures .0 in
+    (the-ring y, (omega (arith, n .before .before .if1 .left), omega (arith, n .before .if2 .left)))
 
 same-length : tie.Need-same-length
 same-length c = search needs
@@ -41,12 +54,12 @@ same-length c = search needs
 same-length-2 : tie.Need-same-length-2
 same-length-2 c = search needs
 
-returns-5 : tie.Need-returns-5
-returns-5 c =
+returns-4 : tie.Need-returns-4
+returns-4 c =
     let y = c .before .before .before .before .before .before .before in
-    let e = y .before .before .before .before .sectors-per-track .ensures .0 in
-    read-goes _ _ _ _ _ (omega (arith, y .before .before .before .if1 .left)) (omega (arith, y .before .before .if2 .left))
-    (record { some = omega (arith, y .before .if3 .left); small = y .if4 .left }) _ _ _
+    let n = y .before in
+    let e = n .before .before .before .sectors-per-track .ensures .0 in
+    read-goes _ _ _ _ _ (omega (arith, n .before .before .if1 .left)) (omega (arith, n .before .if2 .left)) (the-ring y) _ _ _
     (c .before .before .before .before .read-records .ensures)
 
 pub decode-track-from-spec : {M : Type 1} → statement M
@@ -58,9 +71,9 @@ decode-track-from-spec =
     mul-if1
     returns
     returns-2
+    refusal-of-requires
     returns-3
-    returns-4
     read-records-requires
     same-length
     same-length-2
-    returns-5)
+    returns-4)

@@ -34,7 +34,7 @@ first c = c .before .before .before .before .before
 blanked : (c : tie.After-slice-known4 Inv-loop μ-loop)
     → let a = before-loop c .args in Blank (a .track) (a .payloads .now) (a .statuses .now)
     (c .before .before .before .before .before .before .fill .last .0) (c .before .before .fill2 .last .0)
-blanked c = blank _ _ _ _ _ _ (counted c .sectors-per-track .ensures .0)
+blanked c = blank _ _ _ _ _ _ (counted c .sectors-per-track .ensures .0) (before-loop c .pre .1 .0) (before-loop c .pre .1 .1)
     (c .before .before .before .before .before .before .fill .ensures) (c .before .before .fill2 .ensures)
 
 long-payloads : (c : tie.After-slice-known4 Inv-loop μ-loop)

@@ -1,4 +1,4 @@
--- What the helpers inside this crate answer and leave.
+-- What the functions inside this crate answer and leave.
 use Prim.Native.Nat.{ℕ, _*_}
 use mathlib.Core.Bool.{true}
 use mathlib.Core.Path.{_≡_}
@@ -11,9 +11,8 @@ use Rattle.scan.specs.declared.Scanned.the-variants.{Records}
 use Rattle.scan.specs.Answers.{flat, payloadsOf}
 
 -- the answer of `next_record` where it finds one
-abbrev pub foundRecord : ℕ → ℕ → List ℕ → NextRecord
-foundRecord sector place payload =
-    record { found = true; row = record { sector = sector; place = place; payload = payload } }
+abbrev pub aNext : SectorRecord → NextRecord
+aNext r = record { found = true; row = r }
 
 -- a list of records laid out: their rows and payloads in front, spare room kept
 pub record Listed (rs : List SectorRecord) (rows payloads rowsAfter payloadsAfter : List ℕ) (r : Scanned) : Type 0 where

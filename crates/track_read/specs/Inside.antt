@@ -1,4 +1,4 @@
--- What the helpers inside this crate answer and leave.
+-- What the functions inside this crate answer and leave.
 use Prim.Native.Nat.{ℕ, _*_}
 use mathlib.Core.Path.{_≡_}
 use mathlib.Core.List.{List, _++_}

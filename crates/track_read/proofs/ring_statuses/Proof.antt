@@ -1,10 +1,10 @@
 use native.Mathlib.Omega.{arith}
 use mathlib.Core.Path.{_∙_}
 use lib.ListN.{replicate}
-use Rattle.image_statuses.proofs.StatusLaws.{no-track, ring-read}
+use Rattle.track_read.proofs.StatusLaws.{no-track, ring-read}
 use borrow.Author.Needs.{needs}
-use Rattle.image_statuses.proofs.ring_statuses.Statement.{statement}
-use Rattle.image_statuses.proofs.ring_statuses.Tie as tie
+use Rattle.track_read.proofs.ring_statuses.Statement.{statement}
+use Rattle.track_read.proofs.ring_statuses.Tie as tie
 
 fill-requires : tie.Need-fill-requires
 fill-requires c κs = search needs
