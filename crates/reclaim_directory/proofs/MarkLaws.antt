@@ -12,7 +12,7 @@ use lib.ListN.{length, getD, set, length-set}
 use lib.Seq.{getD-set-same, getD-set-other}
 use borrow.Author.Tests.{ltb-true, leb-true}
 use Rattle.geometry.specs.Zones.{within}
-use Rattle.reclaim_directory.specs.Marks.{markPlace, unmarked}
+use Rattle.reclaim_directory.specs.Marks.{markPlace, marked, mark, unmarked}
 use Rattle.reclaim_directory.specs.Disk.{Disk, isAddress, entryFree}
 use Rattle.reclaim_directory.specs.Inside.{freeBy}
 use Rattle.base.proofs.Picks.{and-left, and-right}
@@ -36,6 +36,9 @@ set-old m i p h e =
 
 pub set-only : (m : List Bool) (i p : ℕ) → p ≢ i → getD (set m i true) p false ≡ getD m p false
 set-only m i p n = getD-set-other m i p true false n
+
+pub now-marked : (m : List Bool) (t s : ℕ) → markPlace t s < length m → marked (mark m t s) t s ≡ true
+now-marked m t s h = getD-set-same m (markPlace t s) true false h
 
 -- a disk whose tracks have no more sectors than there are marks for
 pub record Fits (disk : Disk) (marks : List Bool) : Type 0 where

@@ -10,13 +10,12 @@ use native.Mathlib.Nat.{not-suc-le-zero}
 use native.Mathlib.Decide.{ℕ-discrete}
 use native.Mathlib.Omega.{arith}
 use lib.ListN.{length}
-use lib.Seq.{getD-set-same}
 use Rattle.base.specs.Choice.{pick}
 use Rattle.geometry.specs.Zones.{zoneOf, sectorsIn}
 use Rattle.reclaim_directory.specs.Marks.{markPlace, marked, mark}
 use Rattle.reclaim_directory.specs.Disk.{Reader, Address, Disk, disk1541, marksAtFirst}
 use Rattle.theorem_clearing.specs.Links.{next, linked, IsChain}
-use Rattle.reclaim_directory.proofs.MarkLaws.{set-only, Fits, address-facts, place-in, fits-set}
+use Rattle.reclaim_directory.proofs.MarkLaws.{set-only, now-marked, Fits, address-facts, place-in, fits-set}
 use Rattle.theorem_clearing.proofs.ChainLaws.{rest}
 
 -- the unmarked among the first k sectors of track t, and of tracks 1 to n
@@ -49,15 +48,12 @@ module _ (m : List Bool) (t s : ℕ) (p : 0 < t) (b : s < 21) where
     here-less zero l h = absurd (not-suc-le-zero h)
     here-less (suc k) l h = go (ℕ-discrete s k) (λ q. here-less k (omega arith) q)
       where
-        now-set : marked (mark m t s) t s ≡ true
-        now-set = getD-set-same m (markPlace t s) true false i
-
         go : Dec (s ≡ k) → (s < k → openOn m t k ≡ suc (openOn (mark m t s) t k))
             → openOn m t k + pick (marked m t k) 0 1 ≡ suc (openOn (mark m t s) t k + pick (marked (mark m t s) t k) 0 1)
         go (yes q) r =
             let o = other-same t k p (omega arith) (λ j h z w. (let v = w in omega arith)) in
             let x : marked m t k ≡ false = ap (λ (j : ℕ). marked m t j) (sym q) ∙ u in
-            let y : marked (mark m t s) t k ≡ true = ap (λ (j : ℕ). marked (mark m t s) t j) (sym q) ∙ now-set in
+            let y : marked (mark m t s) t k ≡ true = ap (λ (j : ℕ). marked (mark m t s) t j) (sym q) ∙ now-marked m t s i in
             rw (x, y) (omega arith)
         go (no q) r =
             let o = r (omega arith) in

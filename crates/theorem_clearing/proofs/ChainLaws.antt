@@ -13,7 +13,6 @@ use native.Mathlib.Decide.{ℕ-discrete}
 use native.Mathlib.Omega.{arith}
 use lib.Dec.{eqb}
 use lib.ListN.{length, getD}
-use lib.Seq.{getD-set-same}
 use borrow.Author.Tests.{eqb-true, eq-eqb, ne-eqb, not-true}
 use Rattle.base.specs.Choice.{pick}
 use Rattle.base.specs.declared.Sector.{Sector}
@@ -23,7 +22,7 @@ use Rattle.reclaim_directory.specs.Disk.{Reader, Address, address, Disk, isAddr
 use Rattle.reclaim_directory.specs.Chains.{ended, brokenChain, nextTrack, nextSector, maygo, chainFrom, chainAt}
 use Rattle.theorem_clearing.specs.Links.{next, linked, markOf, IsChain, Keeps}
 use Rattle.base.proofs.Picks.{pick-ind, picks, and-left, and-right}
-use Rattle.reclaim_directory.proofs.MarkLaws.{unmarked-set, set-old, set-only, Fits, address-facts, place-in, fits-set}
+use Rattle.reclaim_directory.proofs.MarkLaws.{unmarked-set, set-old, set-only, now-marked, Fits, address-facts, place-in, fits-set}
 
 module _ (disk : Disk) (read : Reader) where
   -- what an address that the chain goes to says
@@ -56,7 +55,8 @@ module _ (disk : Disk) (read : Reader) where
 
   -- a chain that is not refused has a length, and is the chain of the links
   abbrev Ended : List Bool → ℕ → ℕ → ℕ → Chain → Type 0
-  Ended m n t s c = c .ok ≡ true → (d : ℕ) × (c .length ≡ n + d) × IsChain disk read m (address t s) d × Keeps read m (address t s) d (c .marks)
+  Ended m n t s c =
+      c .ok ≡ true → (d : ℕ) × (c .length ≡ n + d) × IsChain disk read m (address t s) d × Keeps read m (address t s) d (c .marks)
 
   broken : (m : List Bool) (n t s : ℕ) → Ended m n t s (brokenChain (disk .marks))
   unfolding brokenChain
@@ -83,9 +83,6 @@ module _ (disk : Disk) (read : Reader) where
       (k : Keeps read (mark m t s) (next read (address t s)) d after) where
     here : markPlace t s < length m
     here = place-in disk m t s w v
-
-    set-now : marked (mark m t s) t s ≡ true
-    set-now = getD-set-same m (markPlace t s) true false here
 
     -- what is unmarked later was unmarked before
     earlier : (p : ℕ) → getD (mark m t s) p false ≡ false → getD m p false ≡ false
@@ -114,7 +111,7 @@ module _ (disk : Disk) (read : Reader) where
     unfolding linked
     no-repeat′ j zero l h e = absurd (not-suc-le-zero l)
     no-repeat′ zero (suc k) l h e =
-        true≢false (sym set-now ∙ ap (λ (p : ℕ). getD (mark m t s) p false) e ∙ c .fresh k (le-of-suc-le-suc h))
+        true≢false (sym (now-marked m t s here) ∙ ap (λ (p : ℕ). getD (mark m t s) p false) e ∙ c .fresh k (le-of-suc-le-suc h))
     no-repeat′ (suc j) (suc k) l h e = c .no-repeat j k (le-of-suc-le-suc l) (le-of-suc-le-suc h) e
 
     old′ : (t′ s′ : ℕ) → marked m t′ s′ ≡ true → marked after t′ s′ ≡ true
@@ -122,7 +119,7 @@ module _ (disk : Disk) (read : Reader) where
 
     new′ : (j : ℕ) → j < suc d → marked after (linked read (address t s) j .track) (linked read (address t s) j .sector) ≡ true
     unfolding linked
-    new′ zero h = k .old t s set-now
+    new′ zero h = k .old t s (now-marked m t s here)
     new′ (suc j) h = k .new j (le-of-suc-le-suc h)
 
     only′ : (t′ s′ : ℕ) → marked after t′ s′ ≡ true
@@ -236,7 +233,7 @@ module _ (disk : Disk) (read read′ : Reader) where
           let f = go-facts disk read m t s g in
           let h = followed disk read left (mark m t s) (n + 1) (nextTrack (read t s)) (nextSector (read t s))
           (fits-set disk m (markPlace t s) w) o in
-          agree t s (f .0) (h .3 .old t s (getD-set-same m (markPlace t s) true false (place-in disk m t s w (f .0))))
+          agree t s (f .0) (h .3 .old t s (now-marked m t s (place-in disk m t s w (f .0))))
 
       Later : Type 0
       Later = onward read read .ok ≡ true → Agree (onward read read) → onward read read′ ≡ onward read read

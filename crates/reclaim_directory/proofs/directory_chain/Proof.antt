@@ -28,9 +28,10 @@ broken-chain-requires c κs = search needs
 returns : tie.Need-returns
 returns c =
     let v = c .before .before in
-    let a = v .before .before .before .before .args in
+    let e = v .before .before .before .before in
+    let a = e .args in
     c .broken-chain .ensures
-    ∙ chain-of-bad (linksUpTo (a .highest) disk1541) (mediumOf (a .kind) (a .table) .read (a .image .now)) (a .bam .now) (v .before .before .before .before .pre .1 .1)
+    ∙ chain-of-bad (linksUpTo (a .highest) disk1541) (mediumOf (a .kind) (a .table) .read (a .image .now)) (a .bam .now) (e .pre .1 .1)
     (sym (v .is-address .ensures) ∙ not-true _ (c .before .if1 .taken))
 
 array-write-marks : tie.Need-array-write-marks
@@ -47,13 +48,14 @@ returns-2 : tie.Need-returns-2
 returns-2 c =
     let m = c .before in
     let v = m .before .before in
-    let a = v .before .before .before .before .args in
+    let e = v .before .before .before .before in
+    let a = e .args in
     let disk = linksUpTo (a .highest) disk1541 in
     let read = mediumOf (a .kind) (a .table) .read (a .image .now) in
     c .follow .ensures
     ∙ ap (λ (p : ℕ). chainAt disk read (set (noMarks (disk .marks)) p true) 0 (getD (a .bam .now) 0 0) (getD (a .bam .now) 1 0))
     (m .mark-place .ensures)
-    ∙ chain-of disk read (a .bam .now) (v .before .before .before .before .pre .1 .1) (sym (v .is-address .ensures) ∙ not-false _ (m .before .if1 .left))
+    ∙ chain-of disk read (a .bam .now) (e .pre .1 .1) (sym (v .is-address .ensures) ∙ not-false _ (m .before .if1 .left))
 
 pub directory-chain-spec : {M : Type 1} → statement M
 directory-chain-spec =

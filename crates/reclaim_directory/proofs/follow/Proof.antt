@@ -153,8 +153,8 @@ returns-4 : tie.Need-returns-4 Inv-loop μ-loop
 returns-4 c =
     let l = c .before in
     let a = l .before .before .args in
-    chain-end (linksUpTo (a .highest) disk1541) (mediumOf (a .kind) (a .table) .read (a .image .now)) (l .loop .marks) (l .loop .n) (l .loop .track)
-    (l .loop .sector) (c .loop-test .left) ∙ l .loop .inv .3
+    chain-end (linksUpTo (a .highest) disk1541) (mediumOf (a .kind) (a .table) .read (a .image .now)) (l .loop .marks) (l .loop .n)
+    (l .loop .track) (l .loop .sector) (c .loop-test .left) ∙ l .loop .inv .3
 
 pub follow-spec : {M : Type 1} → statement M
 follow-spec =
