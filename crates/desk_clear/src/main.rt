@@ -18,7 +18,7 @@ fn tell(free: usize, changed: usize) {
 }
 
 fn clear(image: &mut [u8]) {
-    let outcome = any_kind::clear(image);
+    let outcome = reclaim::clear_any(image);
     match outcome {
         Outcome::Cleared { free, changed } => {
             io::write_all(STDOUT_FILENO, image);

@@ -17,7 +17,7 @@ fn put_line(image: &[u8], track: u8) {
 }
 
 fn put_lines(image: &[u8]) {
-    for track in 1..=image_statuses::LAST_TRACK {
+    for track in 1..=image_statuses::HIGHEST_TRACK {
         put_line(image, track);
     }
 }

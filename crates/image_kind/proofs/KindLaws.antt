@@ -11,7 +11,7 @@ use Rattle.geometry.specs.declared.TrackCount.the-variants.{Tracks, NoD64}
 use Rattle.geometry.proofs.D64Laws.{d64-facts}
 use Rattle.geometry.specs.D64.{tracksOf}
 use Rattle.nib_catalogue.specs.Catalogue.{isNib}
-use Rattle.image.specs.G64.{isG64}
+use Rattle.image_g64.specs.G64.{isG64}
 use Rattle.image_kind.specs.declared.Kind.{Kind}
 use Rattle.image_kind.specs.declared.Kind.the-variants.{D64, G64, Nib}
 use Rattle.image_kind.specs.Kinds.{bySize, kindOf, faultBy, faultOf}

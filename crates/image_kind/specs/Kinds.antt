@@ -10,7 +10,7 @@ use Rattle.geometry.specs.D64.{tracksOf}
 use Rattle.nib_catalogue.specs.declared.Pairs.{Pairs}
 use Rattle.nib_catalogue.specs.declared.Pairs.the-variants.{Count, Refused as NoCatalogue}
 use Rattle.nib_catalogue.specs.Catalogue.{isNib, catalogueOf}
-use Rattle.image.specs.G64.{isG64, g64Table}
+use Rattle.image_g64.specs.G64.{isG64, g64Table}
 use Rattle.image_kind.specs.declared.Kind.{Kind}
 use Rattle.image_kind.specs.declared.Kind.the-variants.{D64, G64, Nib, Unknown}
 

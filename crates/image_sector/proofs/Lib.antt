@@ -1,1 +1,1 @@
-pub mod KindSteps
+pub mod MediumSteps

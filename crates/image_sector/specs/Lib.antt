@@ -1,2 +1,2 @@
-pub mod Kinds
+pub mod Media
 pub mod Contracts

@@ -1,51 +1,45 @@
 -- The statuses of a track: each way that the code goes.
 use mathlib.Core.Path.{_≡_, ap, sym, _∙_}
-use mathlib.Core.Bool.{Bool, true}
+use mathlib.Core.Bool.{Bool, true, false}
 use mathlib.Core.List.{List, _++_}
-use Prim.Native.Nat.{ℕ, _+_, _-_, _/_, _≤_, _<_}
+use Prim.Native.Nat.{ℕ, _+_, _-_, _≤_, _<_}
 use native.Mathlib.Omega.{arith}
 use native.Mathlib.Nat.{sub-zero}
 use lib.Dec.{leb}
-use lib.ListN.{length, getD, take, drop, replicate, List·getD-eq-default}
+use lib.ListN.{length, getD, take, drop, replicate}
 use lib.Seq.{take-at}
 use Rattle.base.specs.Bytes.{anyNonzero}
 use Rattle.base.specs.Lists.{tab}
 use Rattle.base.specs.Refusals.{noRoom}
-use Rattle.base.proofs.Tests.{ltb-yes, ltb-no, leb-yes, leb-no}
-use Rattle.base.proofs.Lists.{getD-any, length-tab}
+use Rattle.base.proofs.Tests.{leb-yes, leb-no}
+use Rattle.base.proofs.Lists.{length-tab}
 use Rattle.base.proofs.Picks.{pick-ind}
 use Rattle.geometry.specs.Zones.{within, sectorsOf}
 use Rattle.geometry.proofs.ZoneLaws.{sectors-of}
-use Rattle.geometry.specs.D64.{d64Place}
+use Rattle.track_build.specs.Blocks.{spoils}
 use Rattle.track_read.specs.Answers.{noTrack}
 use Rattle.track_read.proofs.StatusLaws.{Counts, none-count, ring-count}
-use Rattle.image.specs.declared.Table.{Table}
-use Rattle.image.specs.G64.{g64Table}
-use Rattle.image.proofs.TableLaws.{g64-inside}
+use Rattle.image_rings.specs.declared.Table.{Table}
+use Rattle.image_d64.specs.D64.{errorByte}
+use Rattle.image_g64.specs.G64.{g64Table}
+use Rattle.image_g64.proofs.G64Inside.{g64-inside}
 use Rattle.nib_slots.specs.Slots.{ringOf}
 use Rattle.image_kind.specs.declared.Kind.{Kind}
 use Rattle.image_kind.specs.declared.Kind.the-variants.{D64, G64, Nib, Unknown}
 use Rattle.image_kind.specs.Kinds.{kindOf}
 use Rattle.image_statuses.specs.Statuses.{statusesNumber, statusesAfter, isShown}
-use Rattle.image_statuses.specs.Statuses.{errorByte, d64Status, d64Statuses, halfOf, g64Ring, statusesBy, statusesOf}
+use Rattle.image_statuses.specs.Statuses.{d64Status, d64Statuses, halfOf, g64Ring, statusesBy, statusesOf}
 
 -- ---- D64
 module _ (image : List ℕ) (highest track sector : ℕ) where
-  module _ (end place : ℕ) (e : end ≡ d64Place (highest + 1) 0) (p : place ≡ d64Place track sector) where
-    pub byte-there : end + place / 256 < length image → getD image (end + place / 256) 0 ≡ errorByte image highest track sector
-    byte-there h = getD-any image (end + place / 256) 0 1 h ∙ rw (e, p)
-
-    pub byte-past : length image ≤ end + place / 256 → 1 ≡ errorByte image highest track sector
-    byte-past h = sym (ap (λ (n : ℕ). getD image n 1) (rw (e, p)) ∙ List·getD-eq-default image 1 h)
-
-  module _ (byte : ℕ) (b : byte ≡ errorByte image highest track sector) where
-    pub status-bad : 1 < byte → 2 ≡ d64Status image highest track sector
+  module _ (bad : Bool) (b : bad ≡ spoils (errorByte image highest track sector)) where
+    pub status-bad : bad ≡ true → 2 ≡ d64Status image highest track sector
     unfolding d64Status
-    status-bad h = rw (← b, ltb-yes 1 byte h)
+    status-bad h = rw (← b, h)
 
-    pub status-good : byte ≤ 1 → 1 ≡ d64Status image highest track sector
+    pub status-good : bad ≡ false → 1 ≡ d64Status image highest track sector
     unfolding d64Status
-    status-good h = rw (← b, ltb-no 1 byte h)
+    status-good h = rw (← b, h)
 
 module _ (image : List ℕ) (highest track : ℕ) (before after : List ℕ) (n : length before ≡ sectorsOf track) where
   pub d64-has : track ≤ highest → after ≡ tab (length before) (d64Status image highest track) → after ≡ d64Statuses image highest track

@@ -1,29 +1,27 @@
 -- The statuses of a track's sectors in an image of any kind: 1 for one that reads, 2 for one that does not; all 0 where the image has
 -- no such track.
-use Prim.Native.Nat.{ℕ, _+_, _-_, _*_, _/_}
+use Prim.Native.Nat.{ℕ, _-_, _*_}
 use mathlib.Core.Bool.{Bool, _||_}
 use mathlib.Core.List.{List, _++_}
-use lib.Dec.{leb, ltb}
+use lib.Dec.{leb}
 use lib.ListN.{length, getD, take, drop}
 use Rattle.base.specs.Choice.{pick}
 use Rattle.base.specs.Bytes.{anyNonzero}
 use Rattle.base.specs.Lists.{tab}
 use Rattle.base.specs.Refusals.{noRoom}
 use Rattle.geometry.specs.Zones.{within, sectorsOf}
-use Rattle.geometry.specs.D64.{d64Place}
+use Rattle.image_d64.specs.D64.{errorByte}
+use Rattle.track_build.specs.Blocks.{spoils}
 use Rattle.track_read.specs.Answers.{noTrack, ringStatuses}
 use Rattle.nib_slots.specs.Slots.{ringOf}
-use Rattle.image.specs.G64.{g64Table}
+use Rattle.image_g64.specs.G64.{g64Table}
 use Rattle.image_kind.specs.declared.Kind.{Kind}
 use Rattle.image_kind.specs.declared.Kind.the-variants.{D64, G64, Nib, Unknown}
 use Rattle.image_kind.specs.Kinds.{kindOf}
 
--- ---- D64: the error bytes stand behind the last sector; where there are none each is 1, which says that the sector reads
-abbrev pub errorByte : List ℕ → ℕ → ℕ → ℕ → ℕ
-errorByte image highest track sector = getD image (d64Place (highest + 1) 0 + d64Place track sector / 256) 1
-
+-- ---- D64: a sector whose error byte has a code that spoils it does not read; every other does
 unfoldable pub d64Status : List ℕ → ℕ → ℕ → ℕ → ℕ
-d64Status image highest track sector = pick (ltb 1 (errorByte image highest track sector)) 2 1
+d64Status image highest track sector = pick (spoils (errorByte image highest track sector)) 2 1
 
 unfoldable pub d64Statuses : List ℕ → ℕ → ℕ → List ℕ
 d64Statuses image highest track =

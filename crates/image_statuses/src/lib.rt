@@ -5,12 +5,12 @@ ghost use lib.ListN.{length, replicate};
 ghost use Rattle.base.specs.Lists.{tab};
 ghost use Rattle.geometry.specs.Zones.{sectorsOf};
 ghost use Rattle.image_kind.specs.Kinds.{kindOf};
-ghost use Rattle.image_statuses.specs.Statuses.{errorByte, d64Status, d64Statuses, halfOf, g64Ring};
+ghost use Rattle.image_statuses.specs.Statuses.{d64Status, d64Statuses, halfOf, g64Ring};
 ghost use Rattle.image_statuses.specs.Statuses.{statusesBy, statusesOf, statusesNumber, statusesAfter, isShown};
 use image_kind::Kind;
 
-// The last track that an image can have.
-pub const LAST_TRACK: u8 = 42;
+// The highest track that an image can have.
+pub const HIGHEST_TRACK: u8 = 42;
 
 fn fill(part: &mut [u8], v: u8)
     ensures { λ r. ⌜ now (part .exit) ≡ replicate (length (now (part .entry))) v ⌝ }
@@ -19,24 +19,11 @@ fn fill(part: &mut [u8], v: u8)
     base::fill(part, 0, count, v);
 }
 
-// The error byte of a sector, 1 where the image has none.
-fn error_byte(image: &[u8], highest: u8, track: u8, sector: u8) -> u8
-    requires { ⌜ highest ≤ 42 ⌝ }
-    ensures { λ r. ⌜ r ≡ errorByte (now (image .entry)) highest track sector ⌝ }
-{
-    let end = geometry::d64_place(highest + 1, 0);
-    let at = end + geometry::d64_place(track, sector) / 256;
-    if at < image.len() {
-        return image[at];
-    }
-    1
-}
-
 fn d64_status(image: &[u8], highest: u8, track: u8, sector: u8) -> u8
     requires { ⌜ highest ≤ 42 ⌝ }
     ensures { λ r. ⌜ r ≡ d64Status (now (image .entry)) highest track sector ⌝ }
 {
-    if 1 < error_byte(image, highest, track, sector) {
+    if track_build::spoils(image_d64::error_byte(image, highest, track, sector)) {
         2
     } else {
         1
@@ -78,7 +65,7 @@ fn g64_ring(image: &[u8], half: usize) -> &[u8]
     requires { ⌜ half < 84 ⌝ }
     ensures { λ r. ⌜ now r ≡ g64Ring (now (image .entry)) half ⌝ }
 {
-    let table = image::g64_table(image);
+    let table = image_g64::g64_table(image);
     let start = table.starts[half];
     let end = start + table.lengths[half];
     &image[start..end]
@@ -109,7 +96,7 @@ fn put_statuses(image: &[u8], track: u8, part: &mut [u8])
         fill(part, 0);
         return;
     }
-    if LAST_TRACK < track {
+    if HIGHEST_TRACK < track {
         fill(part, 0);
         return;
     }

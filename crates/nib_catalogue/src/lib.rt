@@ -17,7 +17,7 @@ pub enum Entry {
     Refused(u8),
 }
 
-// At least 256 bytes, and the signature.
+// Is this a NIB file, by its length and signature?
 pub fn is_nib(image: &[u8]) -> bool
     ensures { λ r. ⌜ r ≡ isNib (now (image .entry)) ⌝ }
 {

@@ -1,4 +1,4 @@
--- Clearing an image of any kind as the code does it: a law for each way out.
+-- Clearing an image of any medium as the code does it: a law for each way out.
 use mathlib.Core.Path.{_≡_, refl, ap, ap₂, _∙_}
 use mathlib.Core.Bool.{Bool, true, false}
 use mathlib.Core.List.{List}
@@ -13,14 +13,14 @@ use Rattle.geometry.specs.D64.{d64Place}
 use Rattle.geometry.proofs.ZoneLaws.{sectors-of}
 use Rattle.base.specs.declared.Sector.{Sector}
 use Rattle.sector.specs.Rules.{unique, consistent}
-use Rattle.image.specs.declared.Place.{Place}
-use Rattle.image.specs.declared.Table.{Table}
-use Rattle.image.specs.Rings.{ringPlace}
-use Rattle.image.specs.D64.{d64Sector}
-use Rattle.image.proofs.D64Reads.{sector-in, sector-out}
-use Rattle.image_sector.specs.declared.ImageKind.{ImageKind}
-use Rattle.image_sector.specs.declared.ImageKind.the-variants.{D64, G64, Nib}
-use Rattle.image_sector.specs.Kinds.{Kind, d64Kind, ringsKind, kindOf, kindAt}
+use Rattle.image_rings.specs.declared.Place.{Place}
+use Rattle.image_rings.specs.declared.Table.{Table}
+use Rattle.image_rings.specs.Rings.{ringPlace}
+use Rattle.image_d64.specs.D64.{d64Sector}
+use Rattle.image_d64.proofs.D64Reads.{sector-in, sector-out}
+use Rattle.image_kind.specs.declared.Kind.{Kind}
+use Rattle.image_kind.specs.declared.Kind.the-variants.{D64, G64, Nib, Unknown}
+use Rattle.image_sector.specs.Media.{Medium, d64Medium, ringsMedium, noMedium, mediumOf, mediumAt}
 use Rattle.reclaim_directory.specs.declared.Chain.{Chain}
 use Rattle.reclaim.specs.declared.Counts.{Counts}
 use Rattle.reclaim.specs.declared.Outcome.the-variants.{Cleared}
@@ -47,37 +47,38 @@ module _ (l : List ℕ) (t s p : ℕ) (e : p ≡ d64Place t s) where
   pub block-missing : length l < p + 256 → false ≡ hasData (d64Sector l t s)
   block-missing h = ap hasData (sector-out l t s p e h)
 
--- has a sector data, where the kind of the image is known to be D64
-pub data-as : (place : Place) (l : List ℕ) (t s : ℕ) (kind : ImageKind) → kind ≡ D64 → (r : Bool) → r ≡ hasData (d64Sector l t s)
-    → r ≡ hasData (kindAt kind place .read l t s)
-data-as place l t s kind e r q = rw e q
+-- has a sector data, where the medium of the image is known to be D64
+pub data-as : (place : Place) (l : List ℕ) (t s n : ℕ) (kind : Kind) → kind ≡ D64 n → (r : Bool) → r ≡ hasData (d64Sector l t s)
+    → r ≡ hasData (mediumAt kind place .read l t s)
+data-as place l t s n kind e r q = rw e q
 
 -- a sector at its turn
-module _ (kind : Kind) (toClear : ℕ → ℕ → Bool) (t s : ℕ) (l : List ℕ) (c : Counts) where
-  pub turn-kept : toClear t s ≡ false → work l c ≡ clearSector kind toClear t s (work l c)
+module _ (medium : Medium) (toClear : ℕ → ℕ → Bool) (t s : ℕ) (l : List ℕ) (c : Counts) where
+  pub turn-kept : toClear t s ≡ false → work l c ≡ clearSector medium toClear t s (work l c)
   unfolding clearSector
   turn-kept f = rw f
 
-  module _ (f : toClear t s ≡ true) (found : Sector) (q : found ≡ kind .read l t s) where
+  module _ (f : toClear t s ≡ true) (found : Sector) (q : found ≡ medium .read l t s) where
     pub turn-same : hasData found ≡ false
-        → record { image = l; free = c .free + 1; changed = c .changed } ≡ clearSector kind toClear t s (work l c)
+        → record { image = l; free = c .free + 1; changed = c .changed } ≡ clearSector medium toClear t s (work l c)
     unfolding clearSector atTurn
     turn-same h = rw (f, rw q at h)
 
-    pub turn-changed : hasData found ≡ true → (m : List ℕ) → m ≡ kind .zeroed t s l
-        → record { image = m; free = c .free + 1; changed = c .changed + 1 } ≡ clearSector kind toClear t s (work l c)
+    pub turn-changed : hasData found ≡ true → (m : List ℕ) → m ≡ medium .zeroed t s l
+        → record { image = m; free = c .free + 1; changed = c .changed + 1 } ≡ clearSector medium toClear t s (work l c)
     unfolding clearSector atTurn
     turn-changed h m z = rw (f, rw q at h, z)
 
--- the sectors of a track, by the kind on that track and by the table
+-- the sectors of a track, by the medium on that track and by the table
 module _ (table : Table) (t : ℕ) where
-  pub sectors-there : (kind : ImageKind) (free : ℕ → ℕ → Bool) (n : ℕ) (w : Work)
-      → sectorsDone (kindAt kind (ringPlace table t)) free t n w ≡ sectorsDone (kindOf kind table) free t n w
+  pub sectors-there : (kind : Kind) (free : ℕ → ℕ → Bool) (n : ℕ) (w : Work)
+      → sectorsDone (mediumAt kind (ringPlace table t)) free t n w ≡ sectorsDone (mediumOf kind table) free t n w
   unfolding sectorsDone clearSector atTurn
   sectors-there kind free zero w = refl
-  sectors-there D64 free (suc n) w = ap (clearSector d64Kind free t n) (sectors-there D64 free n w)
-  sectors-there G64 free (suc n) w = ap (clearSector (ringsKind unique table) free t n) (sectors-there G64 free n w)
-  sectors-there Nib free (suc n) w = ap (clearSector (ringsKind consistent table) free t n) (sectors-there Nib free n w)
+  sectors-there (D64 m) free (suc n) w = ap (clearSector d64Medium free t n) (sectors-there (D64 m) free n w)
+  sectors-there G64 free (suc n) w = ap (clearSector (ringsMedium unique table) free t n) (sectors-there G64 free n w)
+  sectors-there Nib free (suc n) w = ap (clearSector (ringsMedium consistent table) free t n) (sectors-there Nib free n w)
+  sectors-there Unknown free (suc n) w = ap (clearSector noMedium free t n) (sectors-there Unknown free n w)
 
 -- no more are counted than there are sectors
 pub free-le : (free : ℕ → ℕ → Bool) (t k : ℕ) → countOn free t k ≤ k
@@ -95,21 +96,21 @@ tracks-le free zero = omega arith
 tracks-le free (suc k) = omega (arith, tracks-le free k, free-le free (suc k) (sectorsOf (suc k)), sectors-of (suc k) .1)
 
 -- ---- the whole: one law for each return of `clear_image`
-module _ (kind : Kind) (n : ℕ) (l : List ℕ) (b : Sector) (q : b ≡ bamSector (kind .read l)) where
-  pub no-bam : b .ok ≡ false → refuse l noDirectory ≡ clearing kind (linksUpTo n disk1541) l
+module _ (medium : Medium) (n : ℕ) (l : List ℕ) (b : Sector) (q : b ≡ bamSector (medium .read l)) where
+  pub no-bam : b .ok ≡ false → refuse l noDirectory ≡ clearing medium (linksUpTo n disk1541) l
   unfolding clearing
   no-bam o = rw (← q, o)
 
-  module _ (o : b .ok ≡ true) (k : Chain) (r : k ≡ chainOf (linksUpTo n disk1541) (kind .read l)) where
-    pub no-chain : k .ok ≡ false → refuse l wrongLink ≡ clearing kind (linksUpTo n disk1541) l
+  module _ (o : b .ok ≡ true) (k : Chain) (r : k ≡ chainOf (linksUpTo n disk1541) (medium .read l)) where
+    pub no-chain : k .ok ≡ false → refuse l wrongLink ≡ clearing medium (linksUpTo n disk1541) l
     unfolding clearing
     no-chain p = rw (← q, o, ← r, p)
 
     pub all-cleared : k .ok ≡ true → (m : List ℕ) (c : Counts)
-        → work m c ≡ tracksDone kind (disk1541 .sectors) (freeBy (b .bytes) (k .marks)) (disk1541 .last) (untouched l)
-        → answer m (Cleared (c .free) (c .changed)) ≡ clearing kind (linksUpTo n disk1541) l
+        → work m c ≡ tracksDone medium (disk1541 .sectors) (freeBy (b .bytes) (k .marks)) (disk1541 .last) (untouched l)
+        → answer m (Cleared (c .free) (c .changed)) ≡ clearing medium (linksUpTo n disk1541) l
     unfolding clearing freeBy
     all-cleared p m c w =
         rw (rw q at o, rw r at p)
-        (ap finish (w ∙ ap₂ (λ (x : Sector) (y : Chain). tracksDone kind (disk1541 .sectors) (freeBy (x .bytes) (y .marks))
+        (ap finish (w ∙ ap₂ (λ (x : Sector) (y : Chain). tracksDone medium (disk1541 .sectors) (freeBy (x .bytes) (y .marks))
         (disk1541 .last) (untouched l)) q r))

@@ -11,14 +11,14 @@ use Rattle.geometry.specs.D64.{tracksOf}
 use Rattle.geometry.proofs.D64Laws.{d64-facts, sum-mono}
 use Rattle.scan.specs.declared.SectorRecord.{SectorRecord}
 use Rattle.base.specs.declared.Sector.{Sector}
-use Rattle.image.specs.declared.Table.{Table}
-use Rattle.image.specs.Rings.{noTable}
-use Rattle.image.proofs.TableLaws.{AllInside, none-inside}
-use Rattle.image_sector.specs.declared.ImageKind.{ImageKind}
-use Rattle.image_sector.specs.declared.ImageKind.the-variants.{D64}
+use Rattle.image_rings.specs.declared.Table.{Table}
+use Rattle.image_rings.specs.Rings.{noTable}
+use Rattle.image_rings.proofs.TableLaws.{AllInside, none-inside}
+use Rattle.image_kind.specs.declared.Kind.{Kind}
+use Rattle.image_kind.specs.declared.Kind.the-variants.{D64}
 use Rattle.reclaim_directory.specs.Disk.{disk1541, linksUpTo}
 use Rattle.reclaim.specs.Clearing.{refuse, clearing}
-use Rattle.image_sector.specs.Kinds.{d64Kind, ringsKind}
+use Rattle.image_sector.specs.Media.{d64Medium, ringsMedium}
 use Rattle.reclaim.specs.Images.{byTracks, clearedD64, byTable}
 use Rattle.image_sector.specs.Contracts.{Complete}
 
@@ -29,15 +29,15 @@ module _ (l : List ℕ) where
   no-d64 e = rw e
 
   module _ (n : ℕ) (e : tracksOf (length l) ≡ Tracks n) where
-    pub as-d64 : clearing d64Kind (linksUpTo n disk1541) l ≡ clearedD64 l
+    pub as-d64 : clearing d64Medium (linksUpTo n disk1541) l ≡ clearedD64 l
     unfolding clearedD64 byTracks
     as-d64 = rw e
 
-    pub d64-complete : (table : Table) → table ≡ noTable 0 → Complete D64 table (length l)
+    pub d64-complete : (table : Table) → table ≡ noTable 0 → Complete (D64 n) table (length l)
     d64-complete table q =
         let f = d64-facts (length l) n e in
         let a = subst (AllInside (length l)) (sym q) (none-inside (length l) 0) in
-        record { sectors = λ _. omega (arith, sum-mono 35 n (f .0), f .2); rings = a .each }
+        record { sectors = λ _ _. omega (arith, sum-mono 35 n (f .0), f .2); rings = a .each }
 
 -- an image of rings by its table
 module _ (rule : List SectorRecord → Sector) (l : List ℕ) (table : Table) where
@@ -45,11 +45,11 @@ module _ (rule : List SectorRecord → Sector) (l : List ℕ) (table : Table) wh
   unfolding byTable
   no-rings o = rw o
 
-  pub as-rings : table .ok ≡ true → clearing (ringsKind rule table) disk1541 l ≡ byTable rule l table
+  pub as-rings : table .ok ≡ true → clearing (ringsMedium rule table) disk1541 l ≡ byTable rule l table
   unfolding byTable
   as-rings o = rw o
 
-pub rings-complete : (kind : ImageKind) → (kind ≡ D64 → ⊥) → (size : ℕ) (table real : Table) → table ≡ real → AllInside size real
+pub rings-complete : (kind : Kind) → ((n : ℕ) → kind ≡ D64 n → ⊥) → (size : ℕ) (table real : Table) → table ≡ real → AllInside size real
     → Complete kind table size
 rings-complete kind other size table real q all =
-    record { sectors = λ e. absurd (other e); rings = subst (AllInside size) (sym q) all .each }
+    record { sectors = λ n e. absurd (other n e); rings = subst (AllInside size) (sym q) all .each }

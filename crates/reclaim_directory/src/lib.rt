@@ -2,15 +2,15 @@
 ghost use mathlib.Core.Path.{_≡_};
 ghost use Prim.Native.Nat.{_+_, _*_, _-_, _<_, _≤_};
 ghost use lib.ListN.{length};
-ghost use Rattle.image.specs.D64.{OnTracks};
-ghost use Rattle.image_sector.specs.Kinds.{kindOf};
+ghost use Rattle.image_d64.specs.D64.{OnTracks};
+ghost use Rattle.image_sector.specs.Media.{mediumOf};
 ghost use Rattle.image_sector.specs.Contracts.{Complete};
 ghost use Rattle.reclaim_directory.specs.Marks.{markPlace};
 ghost use Rattle.reclaim_directory.specs.Disk.{isAddress, entryFree, disk1541, linksUpTo, bamSector};
 ghost use Rattle.reclaim_directory.specs.Chains.{brokenChain, chainAt, chainOf};
 ghost use Rattle.reclaim_directory.specs.Inside.{freeBy};
-use image::Table;
-use image_sector::ImageKind;
+use image_rings::Table;
+use image_kind::Kind;
 
 // The BAM has entries for tracks 1 to 35, from byte 4 of 18/0 on.
 const FIRST_ENTRY: usize = 4;
@@ -57,7 +57,7 @@ fn broken_chain() -> Chain
 // The chain of an image from an address on, with the marks at first.
 fn follow(
     image: &[u8],
-    kind: ImageKind,
+    kind: Kind,
     table: Table,
     highest: u8,
     first: [bool; 882],
@@ -67,7 +67,7 @@ fn follow(
     requires { ⌜ highest ≤ 42 ⌝ }
     requires { ⌜ Complete kind table (length (now image)) ⌝ }
     ensures { λ r. ⌜ r
-        ≡ chainAt (linksUpTo highest disk1541) (kindOf kind table .read (now (image .entry))) first 0 «first_track» «first_sector» ⌝ }
+        ≡ chainAt (linksUpTo highest disk1541) (mediumOf kind table .read (now (image .entry))) first 0 «first_track» «first_sector» ⌝ }
 {
     let mut marks = first;
     let mut n: usize = 0;
@@ -100,15 +100,15 @@ fn follow(
 // The directory chain of an image, whose 18/0 has been read; it is marked too.
 pub fn directory_chain(
     image: &[u8],
-    kind: ImageKind,
+    kind: Kind,
     table: Table,
     highest: u8,
     bam: &[u8; 256],
 ) -> Chain
     requires { ⌜ highest ≤ 42 ⌝ }
     requires { ⌜ Complete kind table (length (now image)) ⌝ }
-    requires { ⌜ now bam ≡ bamSector (kindOf kind table .read (now image)) .bytes ⌝ }
-    ensures { λ r. ⌜ r ≡ chainOf (linksUpTo highest disk1541) (kindOf kind table .read (now (image .entry))) ⌝ }
+    requires { ⌜ now bam ≡ bamSector (mediumOf kind table .read (now image)) .bytes ⌝ }
+    ensures { λ r. ⌜ r ≡ chainOf (linksUpTo highest disk1541) (mediumOf kind table .read (now (image .entry))) ⌝ }
 {
     let track = bam[0];
     let sector = bam[1];

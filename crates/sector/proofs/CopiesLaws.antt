@@ -11,17 +11,18 @@ use lib.Dec.{eqb}
 use lib.ListN.{length, drop, set, replicate, length-append, length-map}
 use borrow.Author.Tests.{eq-eqb, ne-eqb}
 use Rattle.base.specs.Choice.{pick}
+use Rattle.base.specs.Limits.{longestRing}
 use Rattle.base.specs.Bytes.{sameBytes}
 use Rattle.base.proofs.Lists.{put-one}
 use Rattle.ring.specs.Bit.{bits, bitAt}
 use Rattle.scan.specs.declared.SectorRecord.{SectorRecord}
-use Rattle.scan.specs.Scan.{recordsFrom}
+use Rattle.scan.specs.Scan.{recordsFrom, mostRecords}
 use Rattle.scan.proofs.ScanLaws.{few-records}
 use Rattle.scan.proofs.NextLaws.{NextIs}
 use Rattle.sector.specs.declared.Copies.{Copies}
 use Rattle.sector.specs.Rules.{recordsIn, recordsFor, allLike}
 use Rattle.sector.specs.Replacing.{placesIn}
-use Rattle.sector.specs.Copies.{firstPayload, allEqual, placesOf, copiesOf, copiesIn, withCopy, withOther, withRecord}
+use Rattle.sector.specs.Inside.{firstPayload, allEqual, placesOf, copiesOf, copiesIn, withCopy, withRecord}
 
 -- ---- one record more
 for-more : (sector : ℕ) (rs : List SectorRecord) (r : SectorRecord)
@@ -77,31 +78,26 @@ places-in : (own : List SectorRecord) (r : SectorRecord) → placesIn (own ++ (r
 places-in [] r = refl
 places-in (q ∷ own) r = ap (λ (l : List ℕ). q .place ∷ l) (places-in own r)
 
-places-more : (own : List SectorRecord) (r : SectorRecord) → length own < 195
+places-more : (own : List SectorRecord) (r : SectorRecord) → length own < mostRecords
     → placesOf (own ++ (r ∷ [])) ≡ set (placesOf own) (length own) (r .place)
 places-more own r h =
-    ap₂ (λ (l : List ℕ) (n : ℕ). l ++ drop n (replicate 195 0)) (places-in own r) (length-more own r)
-    ∙ sym (put-one (placesIn own) (replicate 195 0) (length own) (r .place) (length-map own (λ r. r .place)) h)
+    ap₂ (λ (l : List ℕ) (n : ℕ). l ++ drop n (replicate mostRecords 0)) (places-in own r) (length-more own r)
+    ∙ sym (put-one (placesIn own) (replicate mostRecords 0) (length own) (r .place) (length-map own (λ r. r .place)) h)
 
--- a copy more, and another record more
-copy-more : (rs own : List SectorRecord) (r : SectorRecord) → length own < 195
-    → copiesOf (rs ++ (r ∷ [])) (own ++ (r ∷ [])) ≡ withCopy (copiesOf rs own) r
-copy-more rs own r h = rw (places-more own r h, length-more rs r, length-more own r, equal-more own r, payload-more own r)
+-- a copy more
+copy-more : (own : List SectorRecord) (r : SectorRecord) → length own < mostRecords → copiesOf (own ++ (r ∷ [])) ≡ withCopy (copiesOf own) r
+copy-more own r h = rw (places-more own r h, length-more own r, equal-more own r, payload-more own r)
 
-other-more : (rs own : List SectorRecord) (r : SectorRecord) → copiesOf (rs ++ (r ∷ [])) own ≡ withOther (copiesOf rs own)
-other-more rs own r = rw (length-more rs r)
-
-pub copies-more : (sector : ℕ) (rs : List SectorRecord) (r : SectorRecord) → length (recordsFor sector rs) < 195
+pub copies-more : (sector : ℕ) (rs : List SectorRecord) (r : SectorRecord) → length (recordsFor sector rs) < mostRecords
     → copiesIn sector (rs ++ (r ∷ [])) ≡ withRecord sector (copiesIn sector rs) r
 unfolding withRecord
-copies-more sector rs r h =
-    ap (copiesOf (rs ++ (r ∷ []))) (for-more sector rs r) ∙ by (eqb (r .sector) sector)
+copies-more sector rs r h = ap copiesOf (for-more sector rs r) ∙ by (eqb (r .sector) sector)
   where
     by : (b : Bool)
-        → copiesOf (rs ++ (r ∷ [])) (pick b (recordsFor sector rs ++ (r ∷ [])) (recordsFor sector rs))
-        ≡ pick b (withCopy (copiesIn sector rs) r) (withOther (copiesIn sector rs))
-    by true = copy-more rs (recordsFor sector rs) r h
-    by false = other-more rs (recordsFor sector rs) r
+        → copiesOf (pick b (recordsFor sector rs ++ (r ∷ [])) (recordsFor sector rs))
+        ≡ pick b (withCopy (copiesIn sector rs) r) (copiesIn sector rs)
+    by true = copy-more (recordsFor sector rs) r h
+    by false = refl
 
 pub few-for : (sector : ℕ) (rs : List SectorRecord) → length (recordsFor sector rs) ≤ length rs
 unfolding recordsFor
@@ -115,14 +111,13 @@ few-for sector (r ∷ rs) = by (eqb (r .sector) sector) (few-for sector rs)
 
 -- ---- the step as the code makes it
 module _ (sector : ℕ) (seen : Copies) (r : SectorRecord) where
-  pub step-other : (r .sector ≡ sector → ⊥) → withOther seen ≡ withRecord sector seen r
+  pub step-other : (r .sector ≡ sector → ⊥) → seen ≡ withRecord sector seen r
   unfolding withRecord
   step-other n = rw (ne-eqb (r .sector) sector n)
 
   module _ (s : r .sector ≡ sector) where
     pub step-first : seen .count ≡ 0
         → record {
-          all = seen .all + 1;
           count = 1;
           equal = true;
           payload = r .payload;
@@ -133,7 +128,6 @@ module _ (sector : ℕ) (seen : Copies) (r : SectorRecord) where
 
     pub step-later : (seen .count ≡ 0 → ⊥) → (same : Bool) → same ≡ sameBytes (r .payload) (seen .payload)
         → record {
-          all = seen .all + 1;
           count = seen .count + 1;
           equal = seen .equal && same;
           payload = seen .payload;
@@ -152,7 +146,7 @@ pub whole : (ring : List ℕ) (track : ℕ) → recordsFrom (bitAt ring) track (
 whole ring track = rw (zero-mod (8 * length ring), zero-add (8 * length ring))
 
 module _ (ring : List ℕ) (track sector : ℕ) where
-  pub search-starts : Searching ring track sector (copiesOf [] []) 0
+  pub search-starts : Searching ring track sector (copiesOf []) 0
   unfolding recordsFor
   search-starts = record { done = []; counted = refl; rest = whole ring track }
 
@@ -163,8 +157,8 @@ module _ (ring : List ℕ) (track sector : ℕ) where
         sym (append-nil (s .done)) ∙ ap (λ (l : List SectorRecord). s .done ++ l) (sym e) ∙ s .rest in
         s .counted ∙ ap (copiesIn sector) n
 
-    module _ (small : length ring ≤ 65535) (r : SectorRecord) (i : NextIs (bitAt ring) track (bits ring) bit r) where
-      room : length (s .done) < 195
+    module _ (small : length ring ≤ longestRing) (r : SectorRecord) (i : NextIs (bitAt ring) track (bits ring) bit r) where
+      room : length (s .done) < mostRecords
       room =
           omega (
             arith,
@@ -173,11 +167,10 @@ module _ (ring : List ℕ) (track sector : ℕ) where
             few-records ring track 0 small,
           )
 
-      pub search-room : (seen .all < 195) × (seen .count < 195)
+      pub search-room : seen .count < mostRecords
       search-room =
-          let a : seen .all ≡ length (s .done) = ap (λ (c : Copies). c .all) (s .counted) in
           let n : seen .count ≡ length (recordsFor sector (s .done)) = ap (λ (c : Copies). c .count) (s .counted) in
-          (omega (arith, room), omega (arith, room, few-for sector (s .done)))
+          omega (arith, room, few-for sector (s .done))
 
       pub search-goes-on : Searching ring track sector (withRecord sector seen r) (r .place + 2600)
       search-goes-on =

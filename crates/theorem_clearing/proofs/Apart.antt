@@ -16,7 +16,7 @@ use borrow.Author.Tests.{eqb-true, not-false}
 use Rattle.base.specs.declared.Sector.{Sector}
 use Rattle.base.specs.Bytes.{anyNonzero}
 use Rattle.base.specs.Sectors.{good}
-use Rattle.image_sector.specs.Kinds.{Kind}
+use Rattle.image_sector.specs.Media.{Medium}
 use Rattle.reclaim.specs.Clearing.{Work, hasData, atTurn, clearSector, sectorsDone, tracksDone}
 use Rattle.reclaim.specs.Counting.{countOn, countTo}
 use Rattle.base.proofs.Picks.{pick-ind, never}
@@ -40,21 +40,21 @@ none-zeros (x ∷ xs) e =
     ap (λ (y : ℕ). y ∷ xs) z ∙ ap (λ (ys : List ℕ). 0 ∷ ys) r
 
 -- an image whose sectors lie apart: Whole says which images have them all, In which sectors they are
-pub record LieApart (kind : Kind) (Whole : List ℕ → Type 0) (In : ℕ → ℕ → Type 0) : Type 0 where
-  pub stays : (t s : ℕ) (image : List ℕ) → In t s → Whole image → Whole (kind .zeroed t s image)
-  pub reads : (t s : ℕ) (image : List ℕ) → In t s → Whole image → kind .read image t s ≡ good (kind .read image t s .bytes)
-  pub long : (t s : ℕ) (image : List ℕ) → In t s → Whole image → length (kind .read image t s .bytes) ≡ 256
-  pub blank : (t s : ℕ) (image : List ℕ) → In t s → Whole image → kind .read (kind .zeroed t s image) t s ≡ good (replicate 256 0)
+pub record LieApart (medium : Medium) (Whole : List ℕ → Type 0) (In : ℕ → ℕ → Type 0) : Type 0 where
+  pub stays : (t s : ℕ) (image : List ℕ) → In t s → Whole image → Whole (medium .zeroed t s image)
+  pub reads : (t s : ℕ) (image : List ℕ) → In t s → Whole image → medium .read image t s ≡ good (medium .read image t s .bytes)
+  pub long : (t s : ℕ) (image : List ℕ) → In t s → Whole image → length (medium .read image t s .bytes) ≡ 256
+  pub blank : (t s : ℕ) (image : List ℕ) → In t s → Whole image → medium .read (medium .zeroed t s image) t s ≡ good (replicate 256 0)
   pub other : (t s t′ s′ : ℕ) (image : List ℕ) → In t s → In t′ s′ → ((t ≡ t′) → (s ≡ s′) → ⊥) → Whole image
-      → kind .read (kind .zeroed t s image) t′ s′ ≡ kind .read image t′ s′
+      → medium .read (medium .zeroed t s image) t′ s′ ≡ medium .read image t′ s′
 
-module _ (kind : Kind) (Whole : List ℕ → Type 0) (In : ℕ → ℕ → Type 0) (laws : LieApart kind Whole In) (sectors : ℕ → ℕ) (last : ℕ)
+module _ (medium : Medium) (Whole : List ℕ → Type 0) (In : ℕ → ℕ → Type 0) (laws : LieApart medium Whole In) (sectors : ℕ → ℕ) (last : ℕ)
     (toClear : ℕ → ℕ → Bool) where
   abbrev reading : Work → ℕ → ℕ → Sector
-  reading w t s = kind .read (w .image) t s
+  reading w t s = medium .read (w .image) t s
 
   turn-kept : (t s t′ s′ : ℕ) (w : Work) → In t s → In t′ s′ → Whole (w .image) → ((t ≡ t′) → (s ≡ s′) → toClear t s ≡ false)
-      → reading (clearSector kind toClear t s w) t′ s′ ≡ reading w t′ s′
+      → reading (clearSector medium toClear t s w) t′ s′ ≡ reading w t′ s′
   unfolding clearSector atTurn
   turn-kept t s t′ s′ w i i′ g busy =
       pick-ind (λ (v : Work). reading v t′ s′ ≡ reading w t′ s′) (toClear t s) _ _
@@ -64,16 +64,16 @@ module _ (kind : Kind) (Whole : List ℕ → Type 0) (In : ℕ → ℕ → Type 
       (λ f. refl)
 
   -- a sector without data is zeros already
-  no-data : (t s : ℕ) (image : List ℕ) → In t s → Whole image → hasData (kind .read image t s) ≡ false
-      → kind .read image t s ≡ good (replicate 256 0)
+  no-data : (t s : ℕ) (image : List ℕ) → In t s → Whole image → hasData (medium .read image t s) ≡ false
+      → medium .read image t s ≡ good (replicate 256 0)
   no-data t s image i g h =
       let r = laws .reads t s image i g in
-      let o : kind .read image t s .ok ≡ true = ap (λ (x : Sector). x .ok) r in
-      let n : anyNonzero (kind .read image t s .bytes) ≡ false = (rw o at h) in
-      r ∙ ap good (none-zeros (kind .read image t s .bytes) n ∙ ap (λ (k : ℕ). replicate k 0) (laws .long t s image i g))
+      let o : medium .read image t s .ok ≡ true = ap (λ (x : Sector). x .ok) r in
+      let n : anyNonzero (medium .read image t s .bytes) ≡ false = (rw o at h) in
+      r ∙ ap good (none-zeros (medium .read image t s .bytes) n ∙ ap (λ (k : ℕ). replicate k 0) (laws .long t s image i g))
 
   turn-blank : (t s : ℕ) (w : Work) → In t s → Whole (w .image) → toClear t s ≡ true
-      → reading (clearSector kind toClear t s w) t s ≡ good (replicate 256 0)
+      → reading (clearSector medium toClear t s w) t s ≡ good (replicate 256 0)
   unfolding clearSector atTurn
   turn-blank t s w i g f =
       rw f
@@ -82,81 +82,81 @@ module _ (kind : Kind) (Whole : List ℕ → Type 0) (In : ℕ → ℕ → Type 
       (λ h. no-data t s (w .image) i g h))
 
   module _ (t k : ℕ) (all : (s : ℕ) → s < k → In t s) where
-    whole-sectors : (w : Work) → Whole (w .image) → Whole (sectorsDone kind toClear t k w .image)
-    whole-sectors w g = sectors-hold kind sectors toClear Whole t k w (λ s l image h. laws .stays t s image (all s l) h) g
+    whole-sectors : (w : Work) → Whole (w .image) → Whole (sectorsDone medium toClear t k w .image)
+    whole-sectors w g = sectors-hold medium sectors toClear Whole t k w (λ s l image h. laws .stays t s image (all s l) h) g
 
   sectors-kept : (t k t′ s′ : ℕ) (w : Work) → ((s : ℕ) → s < k → In t s) → In t′ s′ → Whole (w .image)
       → ((s : ℕ) → s < k → (t ≡ t′) → (s ≡ s′) → toClear t s ≡ false)
-      → reading (sectorsDone kind toClear t k w) t′ s′ ≡ reading w t′ s′
+      → reading (sectorsDone medium toClear t k w) t′ s′ ≡ reading w t′ s′
   unfolding sectorsDone
   sectors-kept t zero t′ s′ w all i g busy = refl
   sectors-kept t (suc k) t′ s′ w all i g busy =
-      turn-kept t k t′ s′ (sectorsDone kind toClear t k w) (all k (omega arith)) i (whole-sectors t k (λ s l. all s (omega arith)) w g)
+      turn-kept t k t′ s′ (sectorsDone medium toClear t k w) (all k (omega arith)) i (whole-sectors t k (λ s l. all s (omega arith)) w g)
       (λ p q. busy k (omega arith) p q)
       ∙ sectors-kept t k t′ s′ w (λ s l. all s (omega arith)) i g (λ s l p q. busy s (omega arith) p q)
 
   sectors-blank : (t k s′ : ℕ) (w : Work) → ((s : ℕ) → s < k → In t s) → Whole (w .image) → s′ < k → toClear t s′ ≡ true
-      → reading (sectorsDone kind toClear t k w) t s′ ≡ good (replicate 256 0)
+      → reading (sectorsDone medium toClear t k w) t s′ ≡ good (replicate 256 0)
   unfolding sectorsDone
   sectors-blank t zero s′ w all g l f = absurd (not-suc-le-zero l)
   sectors-blank t (suc k) s′ w all g l f = go (ℕ-discrete s′ k) (λ m. sectors-blank t k s′ w (λ s l. all s (omega arith)) g m f)
     where
       before : Work
-      before = sectorsDone kind toClear t k w
+      before = sectorsDone medium toClear t k w
 
       ready : Whole (before .image)
       ready = whole-sectors t k (λ s l. all s (omega arith)) w g
 
       go : Dec (s′ ≡ k) → (s′ < k → reading before t s′ ≡ good (replicate 256 0))
-          → reading (clearSector kind toClear t k before) t s′ ≡ good (replicate 256 0)
+          → reading (clearSector medium toClear t k before) t s′ ≡ good (replicate 256 0)
       go (yes e) r = rw e (turn-blank t k before (all k (omega arith)) ready (rw e at f))
       go (no n) r = turn-kept t k t s′ before (all k (omega arith)) (all s′ l) ready (λ p q. absurd (n (sym q))) ∙ r (omega arith)
 
   -- each sector is at its turn as it was before; `had` says of each whether it is free and had data
   sectors-data : (had : ℕ → ℕ → Bool) (t k : ℕ) (w : Work) → ((s : ℕ) → s < k → In t s) → Whole (w .image)
       → ((s : ℕ) → s < k → had t s ≡ toClear t s && hasData (reading w t s))
-      → sectorsDone kind toClear t k w .changed ≡ w .changed + countOn had t k
+      → sectorsDone medium toClear t k w .changed ≡ w .changed + countOn had t k
   unfolding sectorsDone countOn
   sectors-data had t zero w all g agree = omega arith
   sectors-data had t (suc k) w all g agree =
-      let before = sectorsDone kind toClear t k w in
+      let before = sectorsDone medium toClear t k w in
       let same : reading before t k ≡ reading w t k
       = sectors-kept t k t k w (λ s l. all s (omega arith)) (all k (omega arith)) g (λ s l p q. (let v = q in absurd (omega arith))) in
       let h : had t k ≡ toClear t k && hasData (reading before t k)
       = agree k (omega arith) ∙ ap (λ (x : Sector). toClear t k && hasData x) (sym same) in
-      let c = turn-exact kind sectors toClear t k before in
+      let c = turn-exact medium sectors toClear t k before in
       let e = sectors-data had t k w (λ s l. all s (omega arith)) g (λ s l. agree s (omega arith)) in
       rw h (omega arith)
 
   module _ (all : (t s : ℕ) → 0 < t → t ≤ last → s < sectors t → In t s) where
-    pub whole-tracks : (k : ℕ) (w : Work) → k ≤ last → Whole (w .image) → Whole (tracksDone kind sectors toClear k w .image)
+    pub whole-tracks : (k : ℕ) (w : Work) → k ≤ last → Whole (w .image) → Whole (tracksDone medium sectors toClear k w .image)
     whole-tracks k w l g =
-        tracks-hold kind sectors toClear Whole k w (λ t s p h b image q. laws .stays t s image (all t s p (omega arith) b) q) g
+        tracks-hold medium sectors toClear Whole k w (λ t s p h b image q. laws .stays t s image (all t s p (omega arith) b) q) g
 
     pub tracks-kept : (k t′ s′ : ℕ) (w : Work) → k ≤ last → In t′ s′ → Whole (w .image) → (t′ ≤ k → toClear t′ s′ ≡ false)
-        → reading (tracksDone kind sectors toClear k w) t′ s′ ≡ reading w t′ s′
+        → reading (tracksDone medium sectors toClear k w) t′ s′ ≡ reading w t′ s′
     unfolding tracksDone
     tracks-kept zero t′ s′ w l i g busy = refl
     tracks-kept (suc k) t′ s′ w l i g busy =
-        sectors-kept (suc k) (sectors (suc k)) t′ s′ (tracksDone kind sectors toClear k w) (λ s b. all (suc k) s (omega arith) l b) i
+        sectors-kept (suc k) (sectors (suc k)) t′ s′ (tracksDone medium sectors toClear k w) (λ s b. all (suc k) s (omega arith) l b) i
         (whole-tracks k w (omega arith) g)
         (λ s b p q. rw (p, q) (busy (omega arith)))
         ∙ tracks-kept k t′ s′ w (omega arith) i g (λ h. busy (omega arith))
 
     pub tracks-blank : (k t′ s′ : ℕ) (w : Work) → k ≤ last → 0 < t′ → t′ ≤ k → s′ < sectors t′ → Whole (w .image)
-        → toClear t′ s′ ≡ true → reading (tracksDone kind sectors toClear k w) t′ s′ ≡ good (replicate 256 0)
+        → toClear t′ s′ ≡ true → reading (tracksDone medium sectors toClear k w) t′ s′ ≡ good (replicate 256 0)
     unfolding tracksDone
     tracks-blank zero t′ s′ w l p h b g f = absurd (omega arith)
     tracks-blank (suc k) t′ s′ w l p h b g f = go (ℕ-discrete t′ (suc k)) (λ m. tracks-blank k t′ s′ w (omega arith) p m b g f)
       where
         before : Work
-        before = tracksDone kind sectors toClear k w
+        before = tracksDone medium sectors toClear k w
 
         ready : Whole (before .image)
         ready = whole-tracks k w (omega arith) g
 
         go : Dec (t′ ≡ suc k) → (t′ ≤ k → reading before t′ s′ ≡ good (replicate 256 0))
-            → reading (sectorsDone kind toClear (suc k) (sectors (suc k)) before) t′ s′ ≡ good (replicate 256 0)
+            → reading (sectorsDone medium toClear (suc k) (sectors (suc k)) before) t′ s′ ≡ good (replicate 256 0)
         go (yes e) r =
             rw e (sectors-blank (suc k) (sectors (suc k)) s′ before (λ s q. all (suc k) s (omega arith) l q) ready (rw e at b) (rw e at f))
         go (no n) r =
@@ -165,12 +165,12 @@ module _ (kind : Kind) (Whole : List ℕ → Type 0) (In : ℕ → ℕ → Type 
             ∙ r (omega arith)
 
     pub tracks-data : (k : ℕ) (w : Work) → k ≤ last → Whole (w .image)
-        → tracksDone kind sectors toClear k w .changed
+        → tracksDone medium sectors toClear k w .changed
         ≡ w .changed + countTo sectors (λ t s. toClear t s && hasData (reading w t s)) k
     unfolding tracksDone countTo
     tracks-data zero w l g = omega arith
     tracks-data (suc k) w l g =
-        let before = tracksDone kind sectors toClear k w in
+        let before = tracksDone medium sectors toClear k w in
         let e = tracks-data k w (omega arith) g in
         let d = sectors-data (λ t s. toClear t s && hasData (reading w t s)) (suc k) (sectors (suc k)) before
         (λ s b. all (suc k) s (omega arith) l b) (whole-tracks k w (omega arith) g)

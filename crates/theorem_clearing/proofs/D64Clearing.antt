@@ -15,9 +15,9 @@ use Rattle.geometry.specs.D64.{sectorsTo}
 use Rattle.base.specs.declared.Sector.{Sector}
 use Rattle.base.specs.Bytes.{anyNonzero}
 use Rattle.base.specs.Sectors.{good}
-use Rattle.image.specs.D64.{d64Sector, d64Zeroed, OnTracks}
-use Rattle.image.proofs.D64Sectors.{sector-reads, block-length, zeroed-length, zeroed-behind, zeroed-reads, other-reads}
-use Rattle.image_sector.specs.Kinds.{d64Kind}
+use Rattle.image_d64.specs.D64.{d64Sector, d64Zeroed, OnTracks}
+use Rattle.image_d64.proofs.D64Sectors.{sector-reads, block-length, zeroed-length, zeroed-behind, zeroed-reads, other-reads}
+use Rattle.image_sector.specs.Media.{d64Medium}
 use Rattle.reclaim_directory.specs.declared.Chain.{Chain}
 use Rattle.reclaim_directory.specs.Marks.{marked, unmarked}
 use Rattle.reclaim_directory.specs.Disk.{Reader, Disk, bamSector, isAddress, marksAtFirst}
@@ -37,7 +37,7 @@ abbrev pub Large : ℕ → List ℕ → Type 0
 Large n image = sectorsTo n * 256 ≤ length image
 
 -- its sectors lie apart
-d64-apart : (n : ℕ) → LieApart d64Kind (Large n) (OnTracks n)
+d64-apart : (n : ℕ) → LieApart d64Medium (Large n) (OnTracks n)
 d64-apart n =
     record {
       stays = λ t s image i g. (let l = zeroed-length n image g t s i in omega arith);
@@ -61,7 +61,7 @@ pub record InD64 (disk : Disk) : Type 0 where
 -- what clearing the tracks does, with any test
 module _ (disk : Disk) (laws : InD64 disk) (free : ℕ → ℕ → Bool) (image : List ℕ) (large : Large (disk .highest) image) where
   abbrev after : Work
-  after = tracksDone d64Kind (disk .sectors) free (disk .last) (untouched image)
+  after = tracksDone d64Medium (disk .sectors) free (disk .last) (untouched image)
 
   all : (t s : ℕ) → 0 < t → t ≤ disk .last → s < disk .sectors t → OnTracks (disk .highest) t s
   all t s p h b = record { some = p; highest = omega (arith, laws .last-there, h); below = omega (arith, b, laws .sectors t) }
@@ -83,17 +83,17 @@ module _ (disk : Disk) (laws : InD64 disk) (free : ℕ → ℕ → Bool) (image 
 
   tail-kept : Tail (after .image)
   unfolding Tail
-  tail-kept = tracks-hold d64Kind (disk .sectors) free Tail (disk .last) (untouched image) tail-stays (large, refl, refl)
+  tail-kept = tracks-hold d64Medium (disk .sectors) free Tail (disk .last) (untouched image) tail-stays (large, refl, refl)
 
   kept : (t s : ℕ) → OnTracks (disk .highest) t s → (t ≤ disk .last → free t s ≡ false)
       → d64Sector (after .image) t s ≡ d64Sector image t s
   kept t s i busy =
-      tracks-kept d64Kind (Large (disk .highest)) (OnTracks (disk .highest)) (d64-apart (disk .highest)) (disk .sectors) (disk .last) free
+      tracks-kept d64Medium (Large (disk .highest)) (OnTracks (disk .highest)) (d64-apart (disk .highest)) (disk .sectors) (disk .last) free
       all (disk .last) t s (untouched image) (omega arith) i large busy
 
   zeros : (t s : ℕ) → OnTracks (disk .last) t s → free t s ≡ true → d64Sector (after .image) t s ≡ good (replicate 256 0)
   zeros t s i f =
-      tracks-blank d64Kind (Large (disk .highest)) (OnTracks (disk .highest)) (d64-apart (disk .highest)) (disk .sectors) (disk .last) free
+      tracks-blank d64Medium (Large (disk .highest)) (OnTracks (disk .highest)) (d64-apart (disk .highest)) (disk .sectors) (disk .last) free
       all (disk .last) t s (untouched image) (omega arith) (i .some) (i .highest) (omega (arith, i .below, laws .sectors t)) large f
 
   pub sectors-cleared : SectorsCleared disk free image (after .image)
@@ -101,11 +101,11 @@ module _ (disk : Disk) (laws : InD64 disk) (free : ℕ → ℕ → Bool) (image 
   sectors-cleared = record { same-length = tail-kept .1; zeros = zeros; kept = kept; behind = tail-kept .2 }
 
   pub free-counted : after .free ≡ countTo (disk .sectors) free (disk .last)
-  free-counted = tracks-counted d64Kind (disk .sectors) free (disk .last) (untouched image) ∙ omega arith
+  free-counted = tracks-counted d64Medium (disk .sectors) free (disk .last) (untouched image) ∙ omega arith
 
   pub data-counted : after .changed ≡ countTo (disk .sectors) (λ t s. free t s && hasData (d64Sector image t s)) (disk .last)
   data-counted =
-      tracks-data d64Kind (Large (disk .highest)) (OnTracks (disk .highest)) (d64-apart (disk .highest)) (disk .sectors) (disk .last) free
+      tracks-data d64Medium (Large (disk .highest)) (OnTracks (disk .highest)) (d64-apart (disk .highest)) (disk .sectors) (disk .last) free
       all (disk .last) (untouched image) (omega arith) large
       ∙ omega arith
 
@@ -161,12 +161,12 @@ module _ (disk : Disk) (laws : InD64 disk) where
     bam-reads : bamSector (d64Sector image) .ok ≡ true
     bam-reads = ap (λ (x : Sector). x .ok) (sector-reads (disk .highest) image large 18 0 (on-tracks 18 0 (laws .first-there)))
 
-    pub refused-chain : chainOf disk (d64Sector image) .ok ≡ false → clearing d64Kind disk image ≡ refuse image wrongLink
+    pub refused-chain : chainOf disk (d64Sector image) .ok ≡ false → clearing d64Medium disk image ≡ refuse image wrongLink
     unfolding clearing
     refused-chain o = rw (bam-reads, o)
 
     pub cleared-once : chainOf disk (d64Sector image) .ok ≡ true
-        → clearing d64Kind disk image ≡ finish (after disk laws (freeOn disk (d64Sector image)) image large)
+        → clearing d64Medium disk image ≡ finish (after disk laws (freeOn disk (d64Sector image)) image large)
     unfolding clearing
     cleared-once o = rw (bam-reads, o)
 
@@ -179,12 +179,12 @@ module _ (disk : Disk) (laws : InD64 disk) (image : List ℕ) (large : Large (di
   abbrev work : Work
   work = after disk laws free image large
 
-  pub only-free : SectorsCleared disk free image (clearing d64Kind disk image .image)
+  pub only-free : SectorsCleared disk free image (clearing d64Medium disk image .image)
   only-free =
       subst (λ (a : Answer). SectorsCleared disk free image (a .image)) (sym (cleared-once disk laws image large o))
       (sectors-cleared disk laws free image large)
 
-  pub counted : clearing d64Kind disk image .outcome ≡ Cleared (freeCount disk (d64Sector image)) (dataCount disk (d64Sector image))
+  pub counted : clearing d64Medium disk image .outcome ≡ Cleared (freeCount disk (d64Sector image)) (dataCount disk (d64Sector image))
   counted =
       ap (λ (a : Answer). a .outcome) (cleared-once disk laws image large o)
       ∙ ap₂ Cleared (free-counted disk laws free image large) (data-counted disk laws free image large)
@@ -218,25 +218,25 @@ module _ (disk : Disk) (laws : InD64 disk) (image : List ℕ) (large : Large (di
       ap hasData (zeros disk laws free image large t s i f) ∙ zeros-quiet
 
   abbrev second : Work
-  second = tracksDone d64Kind (disk .sectors) free (disk .last) (untouched (work .image))
+  second = tracksDone d64Medium (disk .sectors) free (disk .last) (untouched (work .image))
 
-  cleared-again : clearing d64Kind disk (work .image) ≡ finish second
+  cleared-again : clearing d64Medium disk (work .image) ≡ finish second
   cleared-again =
       cleared-once disk laws (work .image) large-still (ap (λ (c : Chain). c .ok) chain-still ∙ o)
-      ∙ ap (λ (test : ℕ → ℕ → Bool). finish (tracksDone d64Kind (disk .sectors) test (disk .last) (untouched (work .image)))) free-still
+      ∙ ap (λ (test : ℕ → ℕ → Bool). finish (tracksDone d64Medium (disk .sectors) test (disk .last) (untouched (work .image)))) free-still
 
-  again : clearing d64Kind disk (work .image) ≡ record { image = work .image; outcome = Cleared (work .free) 0 }
+  again : clearing d64Medium disk (work .image) ≡ record { image = work .image; outcome = Cleared (work .free) 0 }
   again =
-      let q = tracks-quiet d64Kind (disk .sectors) free (disk .last) (untouched (work .image)) quiet in
+      let q = tracks-quiet d64Medium (disk .sectors) free (disk .last) (untouched (work .image)) quiet in
       let c : second .free ≡ work .free
-      = tracks-counted d64Kind (disk .sectors) free (disk .last) (untouched (work .image))
-      ∙ sym (tracks-counted d64Kind (disk .sectors) free (disk .last) (untouched image)) in
+      = tracks-counted d64Medium (disk .sectors) free (disk .last) (untouched (work .image))
+      ∙ sym (tracks-counted d64Medium (disk .sectors) free (disk .last) (untouched image)) in
       cleared-again ∙ rw (q .0, q .1, c)
 
 pub clearing-length : (disk : Disk) → InD64 disk → (image : List ℕ) → Large (disk .highest) image
-    → length (clearing d64Kind disk image .image) ≡ length image
+    → length (clearing d64Medium disk image .image) ≡ length image
 clearing-length disk laws image large =
-    by-test (length (clearing d64Kind disk image .image) ≡ length image) (chainOf disk (d64Sector image) .ok)
+    by-test (length (clearing d64Medium disk image .image) ≡ length image) (chainOf disk (d64Sector image) .ok)
     (λ o. only-free disk laws image large o .same-length)
     (λ o. ap (λ (a : Answer). length (a .image)) (refused-chain disk laws image large o))
 
@@ -245,8 +245,8 @@ abbrev pub OnceMore : (List ℕ → Answer) → Answer → Type 0
 OnceMore clears a = clears (a .image) ≡ record { image = a .image; outcome = onceMore (a .outcome) }
 
 pub clearing-twice : (disk : Disk) → InD64 disk → (image : List ℕ) → Large (disk .highest) image
-    → OnceMore (clearing d64Kind disk) (clearing d64Kind disk image)
+    → OnceMore (clearing d64Medium disk) (clearing d64Medium disk image)
 clearing-twice disk laws image large =
-    by-test (OnceMore (clearing d64Kind disk) (clearing d64Kind disk image)) (chainOf disk (d64Sector image) .ok)
-    (λ o. subst (OnceMore (clearing d64Kind disk)) (sym (cleared-once disk laws image large o)) (again disk laws image large o))
-    (λ o. let e = refused-chain disk laws image large o in subst (OnceMore (clearing d64Kind disk)) (sym e) e)
+    by-test (OnceMore (clearing d64Medium disk) (clearing d64Medium disk image)) (chainOf disk (d64Sector image) .ok)
+    (λ o. subst (OnceMore (clearing d64Medium disk)) (sym (cleared-once disk laws image large o)) (again disk laws image large o))
+    (λ o. let e = refused-chain disk laws image large o in subst (OnceMore (clearing d64Medium disk)) (sym e) e)

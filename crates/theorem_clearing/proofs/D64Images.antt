@@ -16,8 +16,8 @@ use Rattle.geometry.specs.declared.TrackCount.the-variants.{Tracks, NoD64}
 use Rattle.geometry.specs.D64.{tracksOf}
 use Rattle.geometry.proofs.ZoneLaws.{sectors-of}
 use Rattle.geometry.proofs.D64Laws.{d64-facts}
-use Rattle.image.specs.D64.{d64Sector}
-use Rattle.image_sector.specs.Kinds.{d64Kind}
+use Rattle.image_d64.specs.D64.{d64Sector}
+use Rattle.image_sector.specs.Media.{d64Medium}
 use Rattle.reclaim_directory.specs.Marks.{markPlace, marked}
 use Rattle.reclaim_directory.specs.Disk.{Disk, disk1541, linksUpTo, isAddress, marksAtFirst, entryFree}
 use Rattle.reclaim_directory.specs.Chains.{chainOf}
@@ -68,7 +68,7 @@ module _ (image : List ℕ) (n : ℕ) (size : tracksOf (length image) ≡ Tracks
   large : Large n image
   large = d64-facts (length image) n size .2
 
-  by-size : clearedD64 image ≡ clearing d64Kind diskOf image
+  by-size : clearedD64 image ≡ clearing d64Medium diskOf image
   unfolding clearedD64 byTracks
   by-size = rw size
 
@@ -90,7 +90,7 @@ by-count image NoD64 e = subst (OnceMore clearedD64) (sym known) known
 by-count image (Tracks n) e =
     let w = laws image n e in
     let g = large image n e in
-    let after = clearing d64Kind (linksUpTo n disk1541) image .image in
+    let after = clearing d64Medium (linksUpTo n disk1541) image .image in
     let size : tracksOf (length after) ≡ Tracks n = ap tracksOf (clearing-length (linksUpTo n disk1541) w image g) ∙ e in
     subst (OnceMore clearedD64) (sym (by-size image n e)) (by-size after n size ∙ clearing-twice (linksUpTo n disk1541) w image g)
 

@@ -16,15 +16,17 @@ use Rattle.base.specs.declared.Sector.{Sector}
 use Rattle.sector.specs.Rules.{unique, consistent}
 use Rattle.sector.specs.Replacing.{replacedBy}
 use Rattle.sector.proofs.SectorLaws.{replaced-length}
-use Rattle.image.specs.declared.Place.{Place}
-use Rattle.image.specs.declared.Place.the-variants.{At, Absent, Wrong}
-use Rattle.image.specs.declared.Table.{Table}
-use Rattle.image.specs.Rings.{ringPlace, withRing}
-use Rattle.image.specs.G64.{g64Table}
-use Rattle.image.specs.Nib.{nibTable}
-use Rattle.image.proofs.PartReads.{drop-further}
-use Rattle.image.proofs.TableLaws.{Inside, AllInside, g64-inside, nib-inside, track-inside}
-use Rattle.image_sector.specs.Kinds.{ringsKind}
+use Rattle.image_rings.specs.declared.Place.{Place}
+use Rattle.image_rings.specs.declared.Place.the-variants.{At, Absent, Wrong}
+use Rattle.image_rings.specs.declared.Table.{Table}
+use Rattle.image_rings.specs.Rings.{ringPlace, withRing}
+use Rattle.image_g64.specs.G64.{g64Table}
+use Rattle.image_nib.specs.Nib.{nibTable}
+use Rattle.image_d64.proofs.PartReads.{drop-further}
+use Rattle.image_rings.proofs.TableLaws.{Inside, AllInside, track-inside}
+use Rattle.image_g64.proofs.G64Inside.{g64-inside}
+use Rattle.image_nib.proofs.NibLaws.{nib-inside}
+use Rattle.image_sector.specs.Media.{ringsMedium}
 use Rattle.reclaim_directory.specs.Disk.{Disk, disk1541}
 use Rattle.reclaim.specs.Clearing.{Answer, clearing}
 use Rattle.reclaim.specs.Images.{byTable, clearedG64, clearedNib}
@@ -60,7 +62,7 @@ module _ (rule : List SectorRecord → Sector) (table : Table) (disk : Disk) (im
   Beyond i = (t : ℕ) → 0 < t → t ≤ disk .last → Beside (ringPlace table t) i
 
   stays : (t s : ℕ) → 0 < t → t ≤ disk .last → (l : List ℕ) → RingsCleared disk table image l
-      → RingsCleared disk table image (ringsKind rule table .zeroed t s l)
+      → RingsCleared disk table image (ringsMedium rule table .zeroed t s l)
   stays t s p h l so =
       let f = replacedBy rule t s (replicate 256 0) in
       let keeps : (ring : List ℕ) → length (f ring) ≡ length ring = λ ring. replaced-length rule t s (replicate 256 0) ring in
@@ -74,9 +76,9 @@ module _ (rule : List SectorRecord → Sector) (table : Table) (disk : Disk) (im
   untouched-so : RingsCleared disk table image image
   untouched-so = record { same-length = refl; beside = λ i b. refl }
 
-  pub rings-cleared : RingsCleared disk table image (clearing (ringsKind rule table) disk image .image)
+  pub rings-cleared : RingsCleared disk table image (clearing (ringsMedium rule table) disk image .image)
   rings-cleared =
-      clearing-holds (ringsKind rule table) disk (RingsCleared disk table image) image (λ t s p h b l so. stays t s p h l so) untouched-so
+      clearing-holds (ringsMedium rule table) disk (RingsCleared disk table image) image (λ t s p h b l so. stays t s p h l so) untouched-so
 
 -- by a table, refused or not
 by-table : (rule : List SectorRecord → Sector) (table : Table) (image : List ℕ) → AllInside (length image) table

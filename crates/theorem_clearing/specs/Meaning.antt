@@ -7,10 +7,10 @@ use mathlib.Core.List.{List}
 use lib.ListN.{length, getD, drop, replicate}
 use Rattle.geometry.specs.D64.{sectorsTo}
 use Rattle.base.specs.Sectors.{good}
-use Rattle.image.specs.declared.Place.{Place}
-use Rattle.image.specs.declared.Table.{Table}
-use Rattle.image.specs.Rings.{startOf, lengthOf, ringPlace}
-use Rattle.image.specs.D64.{d64Sector, OnTracks}
+use Rattle.image_rings.specs.declared.Place.{Place}
+use Rattle.image_rings.specs.declared.Table.{Table}
+use Rattle.image_rings.specs.Rings.{startOf, lengthOf, ringPlace}
+use Rattle.image_d64.specs.D64.{d64Sector, OnTracks}
 use Rattle.reclaim_directory.specs.Disk.{Reader, Disk}
 use Rattle.reclaim.specs.declared.Outcome.{Outcome}
 use Rattle.reclaim.specs.declared.Outcome.the-variants.{Cleared, Refused}

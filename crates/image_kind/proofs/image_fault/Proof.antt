@@ -1,5 +1,5 @@
 use Rattle.image_kind.proofs.KindLaws.{fault-is}
-use Rattle.image.specs.declared.Table.{Table}
+use Rattle.image_rings.specs.declared.Table.{Table}
 use mathlib.Core.Path.{sym, ap, _∙_}
 use borrow.Author.Needs.{needs}
 use Rattle.image_kind.proofs.image_fault.Statement.{statement}

@@ -1,6 +1,6 @@
-use Rattle.image_sector.proofs.KindSteps.{in-place, read-there}
-use Rattle.image_sector.specs.Kinds.{kindAt}
-use Rattle.image.specs.declared.Place.{Place}
+use Rattle.image_sector.proofs.MediumSteps.{in-place, read-there}
+use Rattle.image_sector.specs.Media.{mediumAt}
+use Rattle.image_rings.specs.declared.Place.{Place}
 use mathlib.Core.Path.{ap, _∙_}
 use lib.ListN.{length}
 use borrow.Author.Needs.{needs}
@@ -20,7 +20,7 @@ returns : tie.Need-returns
 returns c =
     let r = c .before in
     let a = r .before .before .args in
-    c .read-here .ensures ∙ ap (λ (p : Place). kindAt (a .kind) p .read (a .image .now) (a .track) (a .sector)) (r .ring-place .ensures)
+    c .read-here .ensures ∙ ap (λ (p : Place). mediumAt (a .kind) p .read (a .image .now) (a .track) (a .sector)) (r .ring-place .ensures)
     ∙ read-there (a .table) (a .track) (a .kind) (a .image .now) (a .sector)
 
 pub read-sector-spec : {M : Type 1} → statement M

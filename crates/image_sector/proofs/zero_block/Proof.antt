@@ -1,4 +1,4 @@
-use Rattle.image_sector.proofs.KindSteps.{block-zeroed}
+use Rattle.image_sector.proofs.MediumSteps.{block-zeroed}
 use native.Mathlib.Omega.{arith}
 use borrow.Author.Needs.{needs}
 use Rattle.image_sector.proofs.zero_block.Statement.{statement}
@@ -10,17 +10,17 @@ d64-place-requires c κs = search needs
 add-end : tie.Need-add-end
 add-end c = search needs
 
-sub-fill-zero : tie.Need-sub-fill-zero
-sub-fill-zero c = search needs
+sub-fill : tie.Need-sub-fill
+sub-fill c = search needs
 
-part-fill-zero-start : tie.Need-part-fill-zero-start
-part-fill-zero-start c = search needs
+part-fill-start : tie.Need-part-fill-start
+part-fill-start c = search needs
 
-part-fill-zero-end : tie.Need-part-fill-zero-end
-part-fill-zero-end c = search needs
+part-fill-end : tie.Need-part-fill-end
+part-fill-end c = search needs
 
-fill-zero-requires : tie.Need-fill-zero-requires
-fill-zero-requires c κs = search needs
+fill-requires : tie.Need-fill-requires
+fill-requires c κs = search needs
 
 same-length : tie.Need-same-length
 same-length c = search needs
@@ -31,7 +31,7 @@ returns c =
     let d = f .before .before in
     let a = d .before .before .args in
     block-zeroed (a .image .now) (a .track) (a .sector) (d .d64-place .result) (d .d64-place .ensures) (omega arith)
-    (f .fill-zero .last .0) (f .fill-zero .ensures)
+    (f .fill .last .0) (f .fill .ensures)
 
 pub zero-block-spec : {M : Type 1} → statement M
 zero-block-spec =
@@ -39,9 +39,9 @@ zero-block-spec =
     (tie.spec
     d64-place-requires
     add-end
-    sub-fill-zero
-    part-fill-zero-start
-    part-fill-zero-end
-    fill-zero-requires
+    sub-fill
+    part-fill-start
+    part-fill-end
+    fill-requires
     same-length
     returns)

@@ -1,8 +1,8 @@
 use Rattle.reclaim.proofs.EntrySteps.{no-rings, as-rings, rings-complete}
-use Rattle.image.specs.G64.{g64Table}
-use Rattle.image.proofs.TableLaws.{g64-inside}
+use Rattle.image_g64.specs.G64.{g64Table}
+use Rattle.image_g64.proofs.G64Inside.{g64-inside}
 use Rattle.sector.specs.Rules.{unique}
-use Rattle.image_sector.specs.declared.ImageKind.the-variants.{G64}
+use Rattle.image_kind.specs.declared.Kind.the-variants.{G64}
 use Rattle.reclaim.specs.Images.{byTable, clearedG64}
 use lib.ListN.{length}
 use Prim.Native.Nat.{ℕ}
@@ -31,7 +31,7 @@ clear-image-requires c κs =
     let g = c .before .before .before in
     let l = g .before .before .before .args .image .now in (
       omega arith,
-      rings-complete G64 (λ e. let z : _≡_ {A = ℕ} 0 1 = cc in omega arith) (length l) (g .g64-table .result) (g64Table l)
+      rings-complete G64 (λ n e. let z : _≡_ {A = ℕ} 0 1 = cc in omega arith) (length l) (g .g64-table .result) (g64Table l)
           (g .g64-table .ensures) (g64-inside l),
     )
 

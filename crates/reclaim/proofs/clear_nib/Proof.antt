@@ -1,8 +1,8 @@
 use Rattle.reclaim.proofs.EntrySteps.{no-rings, as-rings, rings-complete}
-use Rattle.image.specs.Nib.{nibTable}
-use Rattle.image.proofs.TableLaws.{nib-inside}
+use Rattle.image_nib.specs.Nib.{nibTable}
+use Rattle.image_nib.proofs.NibLaws.{nib-inside}
 use Rattle.sector.specs.Rules.{consistent}
-use Rattle.image_sector.specs.declared.ImageKind.the-variants.{Nib}
+use Rattle.image_kind.specs.declared.Kind.the-variants.{Nib}
 use Rattle.reclaim.specs.Images.{byTable, clearedNib}
 use lib.ListN.{length}
 use Prim.Native.Nat.{ℕ}
@@ -31,7 +31,7 @@ clear-image-requires c κs =
     let g = c .before .before .before in
     let l = g .before .before .before .args .image .now in (
       omega arith,
-      rings-complete Nib (λ e. let z : _≡_ {A = ℕ} 0 1 = cc in omega arith) (length l) (g .nib-table .result) (nibTable l)
+      rings-complete Nib (λ n e. let z : _≡_ {A = ℕ} 0 1 = cc in omega arith) (length l) (g .nib-table .result) (nibTable l)
           (g .nib-table .ensures) (nib-inside l),
     )
 

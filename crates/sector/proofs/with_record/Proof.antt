@@ -3,11 +3,8 @@ use borrow.Author.Needs.{needs}
 use Rattle.sector.proofs.with_record.Statement.{statement}
 use Rattle.sector.proofs.with_record.Tie as tie
 
-add-all : tie.Need-add-all
-add-all c = search needs
-
 returns : tie.Need-returns
-returns c = let a = c .before .before .before .before .before .args in step-other (a .sector) (a .seen) (a .row) (c .if1 .taken)
+returns c = let a = c .before .before .args in step-other (a .sector) (a .seen) (a .row) (c .if1 .taken)
 
 mul-places : tie.Need-mul-places
 mul-places c = search needs
@@ -17,8 +14,8 @@ array-write-places c = search needs
 
 returns-2 : tie.Need-returns-2
 returns-2 c =
-    let i = c .before .before in
-    let a = i .before .before .before .before .before .args in
+    let i = c .before .before .before .before in
+    let a = i .before .before .args in
     step-first (a .sector) (a .seen) (a .row) (i .if1 .left) (c .if2 .taken)
 
 slice-aggregate-same-bytes : tie.Need-slice-aggregate-same-bytes
@@ -30,14 +27,14 @@ slice-aggregate-same-bytes-2 c = search needs
 same-bytes-requires : tie.Need-same-bytes-requires
 same-bytes-requires c κs = search needs
 
-add-t13 : tie.Need-add-t13
-add-t13 c = search needs
+add-t10 : tie.Need-add-t10
+add-t10 c = search needs
 
 returns-3 : tie.Need-returns-3
 returns-3 c =
     let e = c .before .before .before .before in
-    let i = e .before .before in
-    let a = i .before .before .before .before .before .args in
+    let i = e .before .before .before .before in
+    let a = i .before .before .args in
     step-later (a .sector) (a .seen) (a .row) (i .if1 .left) (e .if2 .left)
     (c .before .same-bytes .result) (c .before .same-bytes .ensures)
 
@@ -45,7 +42,6 @@ pub with-record-spec : {M : Type 1} → statement M
 with-record-spec =
     tie.close
     (tie.spec
-    add-all
     returns
     mul-places
     array-write-places
@@ -53,5 +49,5 @@ with-record-spec =
     slice-aggregate-same-bytes
     slice-aggregate-same-bytes-2
     same-bytes-requires
-    add-t13
+    add-t10
     returns-3)

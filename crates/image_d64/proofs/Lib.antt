@@ -1,0 +1,3 @@
+pub mod PartReads
+pub mod D64Sectors
+pub mod D64Reads

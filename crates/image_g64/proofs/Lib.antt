@@ -1,0 +1,2 @@
+pub mod G64Laws
+pub mod G64Inside

@@ -1,0 +1,2 @@
+pub mod G64
+pub mod Inside
