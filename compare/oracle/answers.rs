@@ -44,7 +44,7 @@ impl Asks for Lines {
         }
     }
 
-    // The status digits are document 01's: 1 where the original hands a sector out, 2 where it hands out none.
+    // The status digits are those of docs/RULES.md: 1 where the original hands a sector out, 2 where it hands out none.
     fn read(&mut self, ring: &[u8], track: u8, start: u64) -> String {
         match asked::read(ring, track, start, true) {
             Ok(sectors) => {

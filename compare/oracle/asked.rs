@@ -1,4 +1,4 @@
-// What the original answers, as document 01 words it. The original has no refusal numbers: each number below is the
+// What the original answers, as docs/RULES.md words it. The original has no refusal numbers: each number below is the
 // document's, chosen by a plain test, or by which of the original's own steps gave nothing.
 use crate::fdd1541::{gcr, nib, reclaim};
 
@@ -97,7 +97,7 @@ pub fn slot(medium: &Answer<nib::NibMedium>, slot: u64) -> Answer<(&[u8], u8)> {
     }
 }
 
-// Document 01 looks at 84 lengths and zones; its order of refusals here is 10, 2, 8, 7.
+// docs/RULES.md looks at 84 lengths and zones; its order of refusals here is 10, 2, 8, 7.
 pub fn encode_nib(lengths: &[u64], zones: &[u8], joined: &[u8], room: usize) -> Answer<Vec<u8>> {
     let lengths = &lengths[..lengths.len().min(SLOTS)];
     let zones = &zones[..zones.len().min(SLOTS)];

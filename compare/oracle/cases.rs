@@ -146,7 +146,7 @@ impl Cases {
         self.track('T', at, track, codes)
     }
 
-    // Some codes of document 01 and some others, each sector its own, `often` in half of them.
+    // Some codes of docs/RULES.md and some others, each sector its own, `often` in half of them.
     pub fn random_codes(&mut self, often: u8) {
         let mut codes = [0u8; 24];
         for code in &mut codes {

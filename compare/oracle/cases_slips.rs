@@ -1,4 +1,4 @@
-// The slips that document 01 names, each under a heading of its own: a scan that falls for one prints other lines.
+// The slips that docs/RULES.md names, each under a heading of its own: a scan that falls for one prints other lines.
 use crate::cases::{Buffer, Cases, Ring, ZONE_TRACKS};
 
 // A ring of gap bytes; their odd bits are ones, so that a run of ones that begins at an odd bit has no one before it.

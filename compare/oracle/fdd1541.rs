@@ -151,7 +151,7 @@ pub mod reclaim {
         answer(reclaim_nib(image.to_vec()), step)
     }
 }
-// What reclaim.rs names and document 01 leaves out.
+// What reclaim.rs names and docs/RULES.md leaves out.
 pub mod disk_image {
     pub enum ImageFormat {
         D64,

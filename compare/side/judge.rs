@@ -30,7 +30,7 @@ fn number_of<T>(answer: &Answer<T>) -> u64 {
     answer.as_ref().err().map_or(0, |&n| u64::from(n))
 }
 
-// Refusals 2, 7 and 10 are document 01's alone, and 9 if it ever came.
+// Refusals 2, 7 and 10 are ours alone, and 9 if it ever came.
 fn verdict<T>(answer: &Answer<T>, same: bool, things: impl Fn(&T) -> usize) -> Verdict {
     Verdict {
         number: number_of(answer),

@@ -60,7 +60,7 @@ struct Counts {
     compared: u64,
     // how many answers had each number; 0 is done
     numbers: [u64; 14],
-    // of those, how many have a number, or a file, that is document 01's alone, as docs/DIFFERENCES.md names them
+    // of those, how many have a number, or a file, that is ours alone, as docs/DIFFERENCES.md names them
     alone: u64,
     // records, sectors, bytes or whatever else the function hands out
     things: u64,
@@ -108,7 +108,7 @@ impl Tally {
             let refused = if refused.is_empty() { "-".to_string() } else { refused.join(", ") };
             let done = format!("{} done, {} {things}", c.numbers[0], c.things);
             println!(
-                "{name}: {} inputs compared, {} differ; {done}; refused {refused}; by document 01 alone {}",
+                "{name}: {} inputs compared, {} differ; {done}; refused {refused}; ours alone {}",
                 c.compared, c.differ, c.alone
             );
             if c.differ > 0 {

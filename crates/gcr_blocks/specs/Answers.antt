@@ -10,7 +10,7 @@ use Rattle.gcr_blocks.specs.Blocks.{codeLength, encodeBlock, bytesLength
 use Rattle.gcr_blocks.specs.declared.Coded.{Coded}
 use Rattle.gcr_blocks.specs.declared.Coded.the-variants.{Written, Refused}
 
--- document 01's number of an answer: 0, or the refusal's
+-- the number of an answer: 0, or the refusal's
 abbrev pub codedNumber : Coded → ℕ
 codedNumber (Written count) = 0
 codedNumber (Refused number) = number

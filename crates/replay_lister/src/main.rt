@@ -1,4 +1,4 @@
-// The ring lister on inputs made here, each listing under a name. What it must write comes from document 01's rules by
+// The ring lister on inputs made here, each listing under a name. What it must write comes from the rules of docs/RULES.md by
 // compare/lister-lines, not from this program.
 use libc::STDOUT_FILENO;
 use lister::Listed;

@@ -1,4 +1,4 @@
--- The cases of document 01, computed.
+-- The cases of docs/RULES.md 14, computed.
 use mathlib.Core.Path.{_≡_, refl}
 use Rattle.geometry.specs.Zones.{zoneOf, sectorsIn}
 use Rattle.geometry.specs.D64.{sectorsTo, d64Place, firstFit, tracksOf}

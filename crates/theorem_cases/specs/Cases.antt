@@ -1,4 +1,4 @@
--- Document 01's cases (a) to (l), in one table.
+-- The cases (a) to (l) of docs/RULES.md 14, in one table.
 use mathlib.Core.Path.{_≡_}
 use mathlib.Core.List.{List, [], _∷_}
 use lib.ListN.{getD}

@@ -1,1 +1,1 @@
-// No code: document 01's cases (a) to (l), in one statement (specs/Cases.antt), and its proof.
+// No code: the cases (a) to (l) of docs/RULES.md, in one statement (specs/Cases.antt), and its proof.
