@@ -53,9 +53,9 @@ g64Entry image half =
 abbrev pub g64Refusal : List ℕ → ℕ
 g64Refusal image =
     refusal (wrongImage when not (isG64 image)
-        ∷ wrongEntries when not (countsRight image)
-        ∷ wrongEntries when anyWrong (g64Entry image) 84
-        ∷ [])
+    ∷ wrongEntries when not (countsRight image)
+    ∷ wrongEntries when anyWrong (g64Entry image) 84
+    ∷ [])
 
 -- the table of a G64 image, or its refusal
 unfoldable pub g64Table : List ℕ → Table

@@ -9,10 +9,10 @@ ghost use Rattle.image_d64.specs.D64.{d64Zeroed, OnTracks};
 ghost use Rattle.image_sector.specs.Media.{readAt, zeroedAt, mediumOf, mediumAt};
 ghost use Rattle.image_sector.specs.Contracts.{Complete, InPlace};
 use base::Sector;
-use sector::Rule;
+use image_kind::Kind;
 use image_rings::Place;
 use image_rings::Table;
-use image_kind::Kind;
+use sector::Rule;
 
 // A sector of the ring at a place, by a rule.
 fn read_at(image: &[u8], place: Place, rule: Rule, track: u8, sector: u8) -> Sector
@@ -48,7 +48,13 @@ pub fn read_sector(image: &[u8], kind: Kind, table: Table, track: u8, sector: u8
     requires { ⌜ Complete kind table (length (now image)) ⌝ }
     ensures { λ r. ⌜ r ≡ mediumOf kind table .read (now (image .entry)) track sector ⌝ }
 {
-    read_here(image, kind, image_rings::ring_place(table, track), track, sector)
+    read_here(
+        image,
+        kind,
+        image_rings::ring_place(table, track),
+        track,
+        sector,
+    )
 }
 
 fn zero_block(image: &mut [u8], track: u8, sector: u8)

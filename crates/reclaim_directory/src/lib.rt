@@ -9,8 +9,8 @@ ghost use Rattle.reclaim_directory.specs.Marks.{markPlace};
 ghost use Rattle.reclaim_directory.specs.Disk.{isAddress, entryFree, disk1541, linksUpTo, bamSector};
 ghost use Rattle.reclaim_directory.specs.Chains.{brokenChain, chainAt, chainOf};
 ghost use Rattle.reclaim_directory.specs.Inside.{freeBy};
-use image_rings::Table;
 use image_kind::Kind;
+use image_rings::Table;
 
 // The BAM has entries for tracks 1 to 35, from byte 4 of 18/0 on.
 const FIRST_ENTRY: usize = 4;
