@@ -1,5 +1,5 @@
 -- The frame of a picture of a disk's side, as SVG text: the colours before the arcs, and behind them the words that say what the
--- colours mean. The arcs between the two are drawn from the top on, clockwise (crate arcs).
+-- colours mean. The arcs between the two are drawn from the top on, clockwise (Arcs).
 use mathlib.Core.List.{[], _∷_}
 use Rattle.base.specs.Words.{ascii}
 use Rattle.page.specs.Page.{Text}

@@ -3,6 +3,7 @@ ghost use Prim.Native.Nat.{_≤_};
 ghost use lib.ListN.{length};
 use crate::rows;
 use crate::rows::Row;
+use crate::says;
 use nib_slots::Zone;
 use nib_write::Encoded;
 use replay_shared::sum;
@@ -15,10 +16,8 @@ const ZONES: usize = 0x33800;
 // Row o.
 pub fn span(window: &[u8], row: Row) {
     let ring = nib_orbit::recover_orbit(window, (row.c % 256) as u8);
-    let mut line = [0u8; 128];
-    let mut at = page::words(&mut line, 0, b"span");
-    at = page::number(&mut line, at, ring.len() as u64);
-    rows::print(&mut line, at);
+    says::number(b"span", ring.len() as u64);
+    says::end();
 }
 
 struct Slots {
@@ -55,46 +54,41 @@ fn all_slots(file: &[u8]) -> Slots {
     slots
 }
 
-fn tell_slots(line: &mut [u8], file: &[u8]) -> usize {
+fn tell_slots(file: &[u8]) {
     let zone = nib_slots::nib_zone(file, 0);
     match zone {
-        Zone::Refused(n) => page::refused(line, 0, n),
+        Zone::Refused(n) => says::refused(n),
         Zone::Is(_) => {
             let slots = all_slots(file);
-            let mut at = page::words(line, 0, b"slots");
-            at = page::number(line, at, slots.present);
-            page::sum(line, at, slots.total)
+            says::number(b"slots", slots.present);
+            says::checksum(slots.total);
         }
     }
 }
 
 // Row n.
 pub fn whole(file: &[u8]) {
-    let mut line = [0u8; 128];
-    let at = tell_slots(&mut line, file);
-    rows::print(&mut line, at);
+    tell_slots(file);
+    says::end();
 }
 
-fn tell_slot(line: &mut [u8], file: &[u8], slot: usize) -> usize {
+fn tell_slot(file: &[u8], slot: usize) {
     let zone = nib_slots::nib_zone(file, slot);
     match zone {
-        Zone::Refused(n) => page::refused(line, 0, n),
+        Zone::Refused(n) => says::refused(n),
         Zone::Is(z) => {
             let ring = nib_slots::nib_ring(file, slot);
-            let mut at = page::words(line, 0, b"zone");
-            at = page::number(line, at, z as u64);
-            at = page::words(line, at, b" length");
-            at = page::number(line, at, ring.len() as u64);
-            page::sum(line, at, sum::mix_all(sum::START, ring))
+            says::number(b"zone", z as u64);
+            says::number(b" length", ring.len() as u64);
+            says::sum_of(ring);
         }
     }
 }
 
 // Row w.
 pub fn one_slot(file: &[u8], row: Row) {
-    let mut line = [0u8; 128];
-    let at = tell_slot(&mut line, file, row.c as usize);
-    rows::print(&mut line, at);
+    tell_slot(file, row.c as usize);
+    says::end();
 }
 
 // A length of four bytes; 0 where there are not so many.
@@ -115,26 +109,19 @@ fn read_lengths(lengths: &mut [u64], source: &[u8])
     }
 }
 
-fn tell_encoded(line: &mut [u8], answer: Encoded) -> usize {
+fn tell_encoded(answer: Encoded) {
     match answer {
-        Encoded::Written(n) => {
-            let at = page::words(line, 0, b"encoded");
-            page::number(line, at, n as u64)
-        }
-        Encoded::Refused(n) => page::refused(line, 0, n),
+        Encoded::Written(n) => says::number(b"encoded", n as u64),
+        Encoded::Refused(n) => says::refused(n),
     }
 }
 
 fn encode_into(room: &mut [u8], source: &[u8], row: Row, lengths: &[u64]) {
     let zones = rows::part(source, ZONES, row.f as usize);
     let rings = rows::part(source, row.c as usize, row.d as usize);
-    let mut line = [0u8; 128];
-    let mut at = tell_encoded(
-        &mut line,
-        nib_write::encode_nib(lengths, zones, rings, room),
-    );
-    at = page::sum(&mut line, at, sum::mix_all(sum::START, room));
-    rows::print(&mut line, at);
+    tell_encoded(nib_write::encode_nib(lengths, zones, rings, room));
+    says::sum_of(room);
+    says::end();
 }
 
 fn encode_with(room: &mut [u8], source: &[u8], row: Row, lengths: &mut [u64]) {

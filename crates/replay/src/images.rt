@@ -1,8 +1,7 @@
 // Images of the three kinds, cleared.
-use crate::rows;
 use crate::rows::Row;
+use crate::says;
 use reclaim::Outcome;
-use replay_shared::sum;
 
 fn cleared(image: &mut [u8], kind: u32) -> Outcome {
     match kind {
@@ -12,22 +11,19 @@ fn cleared(image: &mut [u8], kind: u32) -> Outcome {
     }
 }
 
-fn tell(line: &mut [u8], answer: Outcome) -> usize {
+fn tell(answer: Outcome) {
     match answer {
         Outcome::Cleared { free, changed } => {
-            let mut at = page::words(line, 0, b"free");
-            at = page::number(line, at, free as u64);
-            at = page::words(line, at, b" changed");
-            page::number(line, at, changed as u64)
+            says::number(b"free", free as u64);
+            says::number(b" changed", changed as u64);
         }
-        Outcome::Refused(n) => page::refused(line, 0, n),
+        Outcome::Refused(n) => says::refused(n),
     }
 }
 
 // Row x.
 pub fn clear(image: &mut [u8], row: Row) {
-    let mut line = [0u8; 128];
-    let mut at = tell(&mut line, cleared(image, row.c));
-    at = page::sum(&mut line, at, sum::mix_all(sum::START, image));
-    rows::print(&mut line, at);
+    tell(cleared(image, row.c));
+    says::sum_of(image);
+    says::end();
 }

@@ -5,11 +5,11 @@ mod captures;
 mod images;
 mod rings;
 mod rows;
+mod says;
 mod sectors;
 mod tracks;
 
 use libc::STDIN_FILENO;
-use libc::STDOUT_FILENO;
 use rows::Row;
 
 // Rows that ask about a part of the target and leave it as it is.
@@ -59,10 +59,7 @@ fn turn_target(target: &mut [u8], source: &[u8], row: Row) {
 
 // Row W.
 fn write(buf: &[u8], row: Row) {
-    io::write_all(
-        STDOUT_FILENO,
-        rows::part(buf, row.a as usize, row.b as usize),
-    );
+    says::words(rows::part(buf, row.a as usize, row.b as usize));
 }
 
 // Rows about the buffer that their last number names.
@@ -96,7 +93,7 @@ fn take_row(target: &mut [u8], source: &mut [u8]) -> bool {
         return false;
     }
     if bytes[0] == b'#' {
-        io::write_all(STDOUT_FILENO, &bytes);
+        says::words(&bytes);
     } else {
         turn(target, source, rows::row_of(&bytes));
     }

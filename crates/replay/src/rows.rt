@@ -1,7 +1,6 @@
-// A row of the input, the parts of a buffer that it names, and the line that it prints: compare/README.md.
+// A row of the input, and the parts of a buffer that it names: compare/README.md.
 ghost use Prim.Native.Nat.{_+_, _≤_};
 ghost use lib.ListN.{length};
-use libc::STDOUT_FILENO;
 
 pub struct Row {
     pub letter: u8,
@@ -62,10 +61,4 @@ pub fn part(bytes: &[u8], at: usize, n: usize) -> &[u8] {
     }
     let end = at + n;
     &bytes[at..end]
-}
-
-// A line with its end, written.
-pub fn print(line: &mut [u8], at: usize) {
-    let n = page::words(line, at, b"\n");
-    io::write_all(STDOUT_FILENO, page::so_far(line, n));
 }

@@ -1,8 +1,8 @@
 // Sectors of a ring read and replaced, by the unique rule or by the consistent one.
 use crate::rows;
 use crate::rows::Row;
+use crate::says;
 use base::Sector;
-use replay_shared::sum;
 use sector::Replaced;
 
 fn decoded(ring: &[u8], track: u8, number: u8, unique: bool) -> Sector {
@@ -12,21 +12,20 @@ fn decoded(ring: &[u8], track: u8, number: u8, unique: bool) -> Sector {
     sector::decode_sector_consistent(ring, track, number)
 }
 
-fn tell_sector(line: &mut [u8], answer: Sector) -> usize {
+fn tell_sector(answer: Sector) {
     if !answer.ok {
-        return page::refused(line, 0, answer.number);
+        says::refused(answer.number);
+        return;
     }
     let bytes = answer.bytes;
-    let at = page::words(line, 0, b"sector");
-    page::sum(line, at, sum::mix_all(sum::START, &bytes))
+    says::words(b"sector");
+    says::sum_of(&bytes);
 }
 
 // Rows u and c.
 pub fn read(ring: &[u8], row: Row, unique: bool) {
-    let answer = decoded(ring, (row.c % 256) as u8, (row.d % 256) as u8, unique);
-    let mut line = [0u8; 128];
-    let at = tell_sector(&mut line, answer);
-    rows::print(&mut line, at);
+    tell_sector(decoded(ring, (row.c % 256) as u8, (row.d % 256) as u8, unique));
+    says::end();
 }
 
 fn replaced(ring: &mut [u8], track: u8, number: u8, bytes: &[u8; 256], unique: bool) -> Replaced {
@@ -36,20 +35,19 @@ fn replaced(ring: &mut [u8], track: u8, number: u8, bytes: &[u8; 256], unique: b
     sector::replace_sector_data_consistent(ring, track, number, bytes)
 }
 
-fn tell_replaced(line: &mut [u8], answer: Replaced) -> usize {
+fn tell_replaced(answer: Replaced) {
     match answer {
-        Replaced::Written => page::words(line, 0, b"written"),
-        Replaced::Refused(n) => page::refused(line, 0, n),
+        Replaced::Written => says::words(b"written"),
+        Replaced::Refused(n) => says::refused(n),
     }
 }
 
 fn replace_by(ring: &mut [u8], row: Row, bytes: &[u8; 256], unique: bool) {
     let track = (row.c % 256) as u8;
     let number = (row.d % 256) as u8;
-    let mut line = [0u8; 128];
-    let mut at = tell_replaced(&mut line, replaced(ring, track, number, bytes, unique));
-    at = page::sum(&mut line, at, sum::mix_all(sum::START, ring));
-    rows::print(&mut line, at);
+    tell_replaced(replaced(ring, track, number, bytes, unique));
+    says::sum_of(ring);
+    says::end();
 }
 
 // Rows U and K.

@@ -2,6 +2,7 @@
 ghost use Prim.Native.Nat.{_<_, _≤_};
 use crate::rows;
 use crate::rows::Row;
+use crate::says;
 use replay_shared::sum;
 use scan::Scanned;
 use track_build::Built;
@@ -23,22 +24,18 @@ pub fn build(room: &mut [u8], source: &[u8], row: Row) -> Built {
     track_build::build_track_with_errors(number, payloads, codes, id1, id2, room)
 }
 
-fn tell_built(line: &mut [u8], answer: Built) -> usize {
+fn tell_built(answer: Built) {
     match answer {
-        Built::Written(n) => {
-            let at = page::words(line, 0, b"built");
-            page::number(line, at, n as u64)
-        }
-        Built::Refused(n) => page::refused(line, 0, n),
+        Built::Written(n) => says::number(b"built", n as u64),
+        Built::Refused(n) => says::refused(n),
     }
 }
 
 // Row B.
 pub fn build_and_tell(room: &mut [u8], source: &[u8], row: Row) {
-    let mut line = [0u8; 128];
-    let mut at = tell_built(&mut line, build(room, source, row));
-    at = page::sum(&mut line, at, sum::mix_all(sum::START, room));
-    rows::print(&mut line, at);
+    tell_built(build(room, source, row));
+    says::sum_of(room);
+    says::end();
 }
 
 fn least(a: usize, b: usize) -> usize
@@ -74,18 +71,13 @@ fn records_sum(numbers: &[u64], payloads: &[u8], n: usize) -> u32
     s
 }
 
-fn tell_records(line: &mut [u8], answer: Scanned, numbers: &[u64], payloads: &[u8]) -> usize {
+fn tell_records(answer: Scanned, numbers: &[u64], payloads: &[u8]) {
     match answer {
         Scanned::Records(n) => {
-            let mut at = page::words(line, 0, b"records");
-            at = page::number(line, at, n as u64);
-            page::sum(
-                line,
-                at,
-                records_sum(numbers, payloads, least(n, MOST_RECORDS)),
-            )
+            says::number(b"records", n as u64);
+            says::checksum(records_sum(numbers, payloads, least(n, MOST_RECORDS)));
         }
-        Scanned::Refused(n) => page::refused(line, 0, n),
+        Scanned::Refused(n) => says::refused(n),
     }
 }
 
@@ -114,32 +106,28 @@ pub fn scan(ring: &[u8], row: Row) {
     let mut numbers = [0u64; 390];
     let mut payloads = [0u8; 49920];
     let answer = scan_into(ring, row, &mut numbers, &mut payloads);
-    let mut line = [0u8; 128];
-    let at = tell_records(&mut line, answer, &numbers, &payloads);
-    rows::print(&mut line, at);
+    tell_records(answer, &numbers, &payloads);
+    says::end();
 }
 
-// The status digits, from `from` on.
-fn put_statuses(line: &mut [u8], from: usize, statuses: &[u8]) -> usize {
-    let mut at = from;
+// A digit for each status.
+fn tell_statuses(statuses: &[u8]) {
     let mut i: usize = 0;
     while i < statuses.len() {
-        at = page::words(line, at, &[48 + statuses[i] % 10]);
+        says::words(&[48 + statuses[i] % 10]);
         i += 1;
     }
-    at
 }
 
-fn tell_track(line: &mut [u8], answer: TrackRead, payloads: &[u8], statuses: &[u8]) -> usize {
+fn tell_track(answer: TrackRead, payloads: &[u8], statuses: &[u8]) {
     match answer {
         TrackRead::Found(n) => {
-            let mut at = page::words(line, 0, b"found");
-            at = page::number(line, at, n as u64);
-            at = page::words(line, at, b" status ");
-            at = put_statuses(line, at, statuses);
-            page::sum(line, at, sum::mix_all(sum::START, payloads))
+            says::number(b"found", n as u64);
+            says::words(b" status ");
+            tell_statuses(statuses);
+            says::sum_of(payloads);
         }
-        TrackRead::Refused(n) => page::refused(line, 0, n),
+        TrackRead::Refused(n) => says::refused(n),
     }
 }
 
@@ -156,12 +144,10 @@ pub fn read(ring: &[u8], row: Row) {
         &mut statuses,
     );
     let count = geometry::sectors_per_track(track) as usize;
-    let mut line = [0u8; 128];
-    let at = tell_track(
-        &mut line,
+    tell_track(
         answer,
         rows::part(&payloads, 0, 256 * count),
         rows::part(&statuses, 0, count),
     );
-    rows::print(&mut line, at);
+    says::end();
 }

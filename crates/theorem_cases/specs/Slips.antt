@@ -16,7 +16,7 @@ Ones x p n = (i : ℕ) → i < n → x (p + i) ≢ 0
 
 pub record Slips : Type 0 where
   -- a scan that stands at its last bit, a zero, still finds the sync of 10 to 15 ones that the ring begins with, and
-  -- visits what stands behind it again (that it is then recorded twice is run: vectors_scan)
+  -- visits what stands behind it again (that it is then recorded twice is run: replay)
   pub ten-to-fifteen-at-the-join : (x : ℕ → ℕ) (last n : ℕ) → x last ≡ 0 → Ones x (last + 1) n → x (last + 1 + n) ≡ 0
       → 10 ≤ n → n ≤ 15
       → nextSync x (last + 1) last ≡ At (last + 1 + n)
