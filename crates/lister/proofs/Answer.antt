@@ -20,7 +20,7 @@ use Rattle.track_read.specs.Reading.{readSector, readStatuses}
 use Rattle.track_read.proofs.ReadingLaws.{count-statuses}
 use Rattle.page_text.specs.Put.{Put}
 use Rattle.lister.specs.Envelope.{isEnvelope, ringIn, trackIn, startIn, longestListed, inputRefusal}
-use Rattle.lister.specs.Listing.{headLine, refusedLine, lineOf, ringLines, listing}
+use Rattle.lister.specs.Listing.{headLine, refusalLine, lineOf, ringLines, listing}
 use Rattle.lister.specs.Listing.{longestListing, outRefusal, listed, outAfter, listedNumber}
 use Rattle.lister.proofs.Putting.{head-long, refused-long, line-short}
 use Rattle.lister.specs.declared.Listed.{Listed}
@@ -28,17 +28,17 @@ use Rattle.lister.specs.declared.Listed.the-variants.{Written, Refused}
 
 -- ---- the listing, by the tests of the input
 module _ (input : List ℕ) (envelope : Bool) (e : envelope ≡ isEnvelope input) where
-  pub wrong-listing : envelope ≡ false → refusedLine wrongImage ≡ listing input
+  pub wrong-listing : envelope ≡ false → refusalLine wrongImage ≡ listing input
   unfolding listing
   wrong-listing t = rw (← e, t)
 
   module _ (t : envelope ≡ true) (ring : List ℕ) (r : ring ≡ ringIn input) where
-    pub empty-listing : length ring ≡ 0 → refusedLine ringEmpty ≡ listing input
+    pub empty-listing : length ring ≡ 0 → refusalLine ringEmpty ≡ listing input
     unfolding listing
     empty-listing z = rw (← e, t, ← r, eqb-yes (length ring) 0 z)
 
     module _ (some : length ring ≢ 0) where
-      pub long-listing : longestListed < length ring → refusedLine ringTooLong ≡ listing input
+      pub long-listing : longestListed < length ring → refusalLine ringTooLong ≡ listing input
       unfolding listing
       long-listing l = rw (← e, t, ← r, eqb-no (length ring) 0 some, ltb-yes longestListed (length ring) l)
 
@@ -86,7 +86,7 @@ lines-short ring track start h =
     ))
 
 -- a refusal's line, or what follows
-either-short : (k : ℕ) (good : List ℕ) → k < 1000 → length good ≤ longestListing → length (unless k refusedLine good) ≤ longestListing
+either-short : (k : ℕ) (good : List ℕ) → k < 1000 → length good ≤ longestListing → length (unless k refusalLine good) ≤ longestListing
 either-short zero good l h = h
 either-short (suc k) good l h = omega (arith, refused-long (suc k) l)
 

@@ -17,7 +17,7 @@ use Rattle.page_text.specs.Put.{Put}
 use Rattle.page_text.proofs.PutLaws.{put-more}
 use Rattle.page_text.proofs.DecimalLaws.{decimal-width}
 use Rattle.page_text.proofs.HexLaws.{length-hex, length-two}
-use Rattle.lister.specs.Listing.{headLine, sectorLine, refusedLine, lineOf}
+use Rattle.lister.specs.Listing.{headLine, sectorLine, refusalLine, lineOf}
 use Rattle.lister.specs.Inside.{lineAt, lines}
 
 -- nothing put
@@ -36,8 +36,8 @@ module _ (out a b c d : List ℕ) (track found count i j k l : ℕ) where
       (put-more b c d (ascii " of " ++ decimal count) (ascii "\n") j k l r s))
 
 pub refused-put : (out a b : List ℕ) (n i j : ℕ) → Put out 0 (ascii "refused " ++ decimal n) a i → Put a i (ascii "\n") b j → Put out 0
-    (refusedLine n) b j
-unfolding refusedLine
+    (refusalLine n) b j
+unfolding refusalLine
 refused-put out a b n i j p q = put-more out a b (ascii "refused " ++ decimal n) (ascii "\n") 0 i j p q
 
 module _ (out a b c d e : List ℕ) (at sector sum i j k l m : ℕ) where
@@ -57,8 +57,8 @@ head-long track found count t f c =
     simp length-append
     (omega (arith, decimal-width 2 track (omega arith), decimal-width 1 found (omega arith), decimal-width 1 count (omega arith)))
 
-pub refused-long : (n : ℕ) → n < 1000 → length (refusedLine n) ≤ 25
-unfolding refusedLine
+pub refused-long : (n : ℕ) → n < 1000 → length (refusalLine n) ≤ 25
+unfolding refusalLine
 refused-long n h = simp length-append (omega (arith, decimal-width 2 n (omega arith)))
 
 pub sector-long : (sector sum : ℕ) → length (sectorLine sector sum) ≡ 17

@@ -22,8 +22,8 @@ headLine track found count =
 unfoldable pub sectorLine : ℕ → ℕ → List ℕ
 sectorLine sector sum = ascii "sector " ++ (decimalOf 2 sector ++ (ascii " sum " ++ (hexOf 2 sum ++ ascii "\n")))
 
-unfoldable pub refusedLine : ℕ → List ℕ
-refusedLine n = ascii "refused " ++ (decimal n ++ ascii "\n")
+unfoldable pub refusalLine : ℕ → List ℕ
+refusalLine n = ascii "refused " ++ (decimal n ++ ascii "\n")
 
 -- the line of a sector, none where it is not given
 abbrev pub lineOf : ℕ → Handed → List ℕ
@@ -37,7 +37,7 @@ ringLines ring track start =
     ++ joined (sectorsOf track) (λ j. lineOf j (readSector ring track start j))
 
 unfoldable pub listing : List ℕ → List ℕ
-listing input = unless (inputRefusal input) refusedLine (ringLines (ringIn input) (trackIn input) (startIn input))
+listing input = unless (inputRefusal input) refusalLine (ringLines (ringIn input) (trackIn input) (startIn input))
 
 -- ---- `list_ring`
 -- it needs room for the longest listing, whatever it lists: a first line of 25 bytes, and 17 for each of 21 sectors

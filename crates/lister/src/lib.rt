@@ -7,7 +7,7 @@ ghost use Rattle.geometry.specs.Zones.{sectorsOf};
 ghost use Rattle.page_text.specs.Numerals.{decimal};
 ghost use Rattle.page_text.specs.Put.{Put};
 ghost use Rattle.lister.specs.Envelope.{isEnvelope, longestListed};
-ghost use Rattle.lister.specs.Listing.{headLine, sectorLine, refusedLine, ringLines, listing};
+ghost use Rattle.lister.specs.Listing.{headLine, sectorLine, refusalLine, ringLines, listing};
 ghost use Rattle.lister.specs.Listing.{longestListing, outRefusal, listed, outAfter, listedNumber};
 ghost use Rattle.lister.specs.Inside.{lineAt, lines};
 use track_read::TrackRead;
@@ -61,7 +61,7 @@ fn put_head(out: &mut [u8], track: u8, found: usize, count: u8) -> usize
 // The line of a refused input.
 fn put_refused(out: &mut [u8], number: u8) -> usize
     requires { ⌜ 25 ≤ length (now out) ⌝ }
-    ensures { λ r. ⌜ Put (now (out .entry)) 0 (refusedLine number) (now (out .exit)) r ⌝ }
+    ensures { λ r. ⌜ Put (now (out .entry)) 0 (refusalLine number) (now (out .exit)) r ⌝ }
 {
     let a = put_number(out, 0, b"refused ", number as u64);
     page_text::put_bytes(out, a, b"\n")

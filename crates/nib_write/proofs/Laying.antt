@@ -15,8 +15,8 @@ use Rattle.base.specs.Lists.{joined}
 use Rattle.base.specs.Refusals.{wrongSum, ringTooLong, noRing, noRoom}
 use Rattle.base.proofs.Lists.{length-tab, length-joined, joined-next}
 use Rattle.base.proofs.Pieces.{put-turn}
-use Rattle.nib_write.specs.Encoding.{sumTo, anyLong, ringsTo, pairOf, ringIn, repeated, slotWindow}
-use Rattle.nib_write.specs.Encoding.{mark, fileOf, sizeOf, filled, encodingRefusal, encodedOf, outAfter}
+use Rattle.nib_write.specs.Encoding.{sumTo, anyLong, ringsTo, pairOf, slotRing, repeated, slotWindow}
+use Rattle.nib_write.specs.Encoding.{fileHead, fileOf, sizeOf, filled, encodingRefusal, encodedOf, outAfter}
 use Rattle.nib_write.specs.declared.Encoded.{Encoded}
 use Rattle.nib_write.specs.declared.Encoded.the-variants.{Written, Refused}
 
@@ -120,7 +120,7 @@ module _ (lengths rings : List ℕ) where
   pub window-none : (k : ℕ) → getD lengths k 0 ≡ 0 → slotWindow lengths rings k ≡ []
   window-none k e = rw (eq-eqb (getD lengths k 0) 0 e)
 
-  pub window-one : (k : ℕ) → (getD lengths k 0 ≡ 0 → ⊥) → slotWindow lengths rings k ≡ repeated (ringIn lengths rings k)
+  pub window-one : (k : ℕ) → (getD lengths k 0 ≡ 0 → ⊥) → slotWindow lengths rings k ≡ repeated (slotRing lengths rings k)
   window-one k e = rw (ne-eqb (getD lengths k 0) 0 e)
 
   window-more : (b : Bool) (r : List ℕ) (n : ℕ) → length r ≡ 8192 → 8192 * pick b n (suc n) ≡ 8192 * n + length (pick b [] r)
@@ -130,8 +130,8 @@ module _ (lengths rings : List ℕ) where
   pub window-length : (k : ℕ) → 8192 * ringsTo lengths (suc k) ≡ 8192 * ringsTo lengths k + length (slotWindow lengths rings k)
   unfolding ringsTo
   window-length k =
-      window-more (eqb (getD lengths k 0) 0) (repeated (ringIn lengths rings k)) (ringsTo lengths k)
-      (repeated-length (ringIn lengths rings k))
+      window-more (eqb (getD lengths k 0) 0) (repeated (slotRing lengths rings k)) (ringsTo lengths k)
+      (repeated-length (slotRing lengths rings k))
 
   pub windows-length : (k : ℕ) → length (joined k (slotWindow lengths rings)) ≡ 8192 * ringsTo lengths k
   windows-length k =
@@ -197,7 +197,7 @@ module _ (lengths zones rings : List ℕ) where
       (omega (arith, rings-le lengths 84))
 
   pub file-done : (out l1 l2 l3 l4 : List ℕ) (at : ℕ) → sizeOf lengths ≤ length out
-      → l1 ≡ sets out 0 mark → l2 ≡ sets l1 16 (joined 84 (pairOf lengths zones))
+      → l1 ≡ sets out 0 fileHead → l2 ≡ sets l1 16 (joined 84 (pairOf lengths zones))
       → at ≡ 16 + 2 * ringsTo lengths 84 → l3 ≡ sets l2 at (replicate (256 - at) 0) → l4 ≡ sets l3 256 (joined 84 (slotWindow lengths rings))
       → l4 ≡ filled lengths zones rings out
   unfolding fileOf
@@ -208,14 +208,14 @@ module _ (lengths zones rings : List ℕ) where
       let ws = joined 84 (slotWindow lengths rings) in
       let le : n ≤ 84 = rings-le lengths 84 in
       let w : 256 - at ≡ 240 - 2 * n = omega arith in
-      let s2 : length (mark ++ ps) ≡ 16 + 2 * n = omega (arith, pairs-length lengths zones 84) in
-      let s3 : length ((mark ++ ps) ++ zs) ≡ 256 = simp (length-append, pairs-length lengths zones 84, length-replicate) (omega arith) in
-      let f2 : l2 ≡ sets out 0 (mark ++ ps) = put-turn out l1 l2 mark ps 0 16 16 e1 refl refl e2 in
-      let f3 : l3 ≡ sets out 0 ((mark ++ ps) ++ zs) =
-      put-turn out l2 l3 (mark ++ ps) zs 0 at (16 + 2 * n) f2 s2 (omega arith) (rw w at e3) in
-      let f4 : l4 ≡ sets out 0 (((mark ++ ps) ++ zs) ++ ws) = put-turn out l3 l4 ((mark ++ ps) ++ zs) ws 0 256 256 f3 s3 refl e4 in
-      let all : ((mark ++ ps) ++ zs) ++ ws ≡ fileOf lengths zones rings =
-      append-assoc (mark ++ ps) zs ws ∙ append-assoc mark ps (zs ++ ws) in
+      let s2 : length (fileHead ++ ps) ≡ 16 + 2 * n = omega (arith, pairs-length lengths zones 84) in
+      let s3 : length ((fileHead ++ ps) ++ zs) ≡ 256 = simp (length-append, pairs-length lengths zones 84, length-replicate) (omega arith) in
+      let f2 : l2 ≡ sets out 0 (fileHead ++ ps) = put-turn out l1 l2 fileHead ps 0 16 16 e1 refl refl e2 in
+      let f3 : l3 ≡ sets out 0 ((fileHead ++ ps) ++ zs) =
+      put-turn out l2 l3 (fileHead ++ ps) zs 0 at (16 + 2 * n) f2 s2 (omega arith) (rw w at e3) in
+      let f4 : l4 ≡ sets out 0 (((fileHead ++ ps) ++ zs) ++ ws) = put-turn out l3 l4 ((fileHead ++ ps) ++ zs) ws 0 256 256 f3 s3 refl e4 in
+      let all : ((fileHead ++ ps) ++ zs) ++ ws ≡ fileOf lengths zones rings =
+      append-assoc (fileHead ++ ps) zs ws ∙ append-assoc fileHead ps (zs ++ ws) in
       let s : 0 + length (fileOf lengths zones rings) ≡ sizeOf lengths = omega (arith, file-length) in
       f4 ∙ ap (sets out 0) all ∙ sets-eq (fileOf lengths zones rings) out 0 (omega arith)
       ∙ ap (λ (k : ℕ). fileOf lengths zones rings ++ drop k out) s

@@ -31,22 +31,22 @@ abbrev pub pairOf : List ℕ → List ℕ → ℕ → List ℕ
 pairOf lengths zones slot = pick (eqb (getD lengths slot 0) 0) [] ((slot + 2) ∷ getD zones slot 0 % 4 ∷ [])
 
 -- the ring of a slot, a ring repeated over a window, and the window of a slot
-abbrev pub ringIn : List ℕ → List ℕ → ℕ → List ℕ
-ringIn lengths rings slot = take (getD lengths slot 0) (drop (sumTo lengths slot) rings)
+abbrev pub slotRing : List ℕ → List ℕ → ℕ → List ℕ
+slotRing lengths rings slot = take (getD lengths slot 0) (drop (sumTo lengths slot) rings)
 
 unfoldable pub repeated : List ℕ → List ℕ
 repeated ring = tab 8192 (λ i. getD ring (i % length ring) 0)
 
 abbrev pub slotWindow : List ℕ → List ℕ → ℕ → List ℕ
-slotWindow lengths rings slot = pick (eqb (getD lengths slot 0) 0) [] (repeated (ringIn lengths rings slot))
+slotWindow lengths rings slot = pick (eqb (getD lengths slot 0) 0) [] (repeated (slotRing lengths rings slot))
 
 -- the file: the signature, 1, two zeros, the pairs, zeros up to byte 256, the windows
-abbrev pub mark : List ℕ
-mark = signature ++ (1 ∷ 0 ∷ 0 ∷ [])
+abbrev pub fileHead : List ℕ
+fileHead = signature ++ (1 ∷ 0 ∷ 0 ∷ [])
 
 unfoldable pub fileOf : List ℕ → List ℕ → List ℕ → List ℕ
 fileOf lengths zones rings =
-    mark
+    fileHead
     ++ (joined 84 (pairOf lengths zones)
     ++ (replicate (240 - 2 * ringsTo lengths 84) 0 ++ joined 84 (slotWindow lengths rings)))
 

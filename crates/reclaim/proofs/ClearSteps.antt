@@ -27,10 +27,10 @@ use Rattle.reclaim.specs.declared.Outcome.the-variants.{Cleared}
 use Rattle.reclaim_directory.specs.Disk.{disk1541, linksUpTo, bamSector}
 use Rattle.reclaim_directory.specs.Inside.{freeBy}
 use Rattle.reclaim_directory.specs.Chains.{chainOf}
-use Rattle.reclaim.specs.Clearing.{Work, hasData, atTurn, clearSector, sectorsDone, tracksDone}
+use Rattle.reclaim.specs.Clearing.{Work, hasData, atTurn, clearSector, sectorsDone, tracksDone, answer}
 use Rattle.reclaim.specs.Clearing.{untouched, refuse, finish, clearing}
 use Rattle.reclaim.specs.Counting.{countOn, countTo}
-use Rattle.reclaim.specs.Inside.{work, answer}
+use Rattle.reclaim.specs.Inside.{work}
 
 -- has a sector data
 pub unreadable : (found : Sector) → found .ok ≡ false → false ≡ hasData found

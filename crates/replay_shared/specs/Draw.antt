@@ -15,12 +15,12 @@ stateAfter seed zero = seed
 stateAfter seed (suc k) = stepped (stateAfter seed k)
 
 -- the byte that a state stands for: its highest
-unfoldable pub byteOf : ℕ → ℕ
-byteOf state = state / 2 ^ 24
+unfoldable pub drawnByte : ℕ → ℕ
+drawnByte state = state / 2 ^ 24
 
 -- the n bytes that follow a seed
 unfoldable pub drawn : ℕ → ℕ → List ℕ
-drawn seed n = tab n (λ k. byteOf (stateAfter seed (suc k)))
+drawn seed n = tab n (λ k. drawnByte (stateAfter seed (suc k)))
 
 -- a part is filled with the bytes that follow a seed; the answer is the state to go on from
 pub record Filled (before : List ℕ) (seed : ℕ) (after : List ℕ) (state : ℕ) : Type 0 where

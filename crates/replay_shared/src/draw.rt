@@ -1,6 +1,6 @@
 // The generator: the same numbers on both sides.
 ghost use mathlib.Core.Path.{_≡_};
-ghost use Rattle.replay_shared.specs.Draw.{stepped, byteOf, Filled};
+ghost use Rattle.replay_shared.specs.Draw.{stepped, drawnByte, Filled};
 
 // One step.
 pub fn step(state: u32) -> u32
@@ -11,7 +11,7 @@ pub fn step(state: u32) -> u32
 
 // The byte that a state stands for.
 pub fn byte_of(state: u32) -> u8
-    ensures { λ r. ⌜ r ≡ byteOf state ⌝ }
+    ensures { λ r. ⌜ r ≡ drawnByte state ⌝ }
 {
     (state / 16777216) as u8
 }

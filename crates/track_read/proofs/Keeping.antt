@@ -20,7 +20,7 @@ use Rattle.geometry.specs.Zones.{sectorsOf}
 use Rattle.ring.specs.Bit.{bits, bitAt}
 use Rattle.scan.specs.declared.SectorRecord.{SectorRecord}
 use Rattle.scan.specs.Scan.{recordsFrom, records}
-use Rattle.track_read.specs.Reading.{Handed, Given, NotGiven, firstOf, bytesOf, statusOf, readPayloads, readStatuses}
+use Rattle.track_read.specs.Reading.{Handed, Given, NotGiven, firstOf, bytesGiven, statusOf, readPayloads, readStatuses}
 use Rattle.track_read.specs.Inside.{Kept, ReadInto}
 use Rattle.scan.proofs.ScanLaws.{Every}
 use Rattle.scan.proofs.NextLaws.{NextIs}
@@ -59,7 +59,7 @@ module _ (j : ℕ) (r : SectorRecord) where
 
 -- ---- the payloads and statuses by the records passed
 abbrev payloadBy : List SectorRecord → ℕ → List ℕ
-payloadBy done j = bytesOf (firstOf j done)
+payloadBy done j = bytesGiven (firstOf j done)
 
 abbrev statusBy : List SectorRecord → ℕ → ℕ
 statusBy done j = statusOf (firstOf j done)
@@ -191,7 +191,7 @@ module _ {ring : List ℕ} {track start : ℕ} {payloads₀ statuses₀ payloads
               ∙ ap (λ (l : List ℕ). l ++ drop (256 * sectorsOf track) payloads₀)
               (joined-put 256 (payloadBy (i .done)) sized (sectorsOf track) (r .sector) (r .payload) (payloadBy (i .done ++ (r ∷ [])))
               (next .sector) (next .long)
-              (ap (λ (y : Handed). bytesOf y) new) (λ j d. ap (λ (y : Handed). bytesOf y) (others j d)));
+              (ap (λ (y : Handed). bytesGiven y) new) (λ j d. ap (λ (y : Handed). bytesGiven y) (others j d)));
           told = ap (λ (l : List ℕ). set l (r .sector) 1) (i .told)
               ∙ set-append-left (tab (sectorsOf track) (statusBy (i .done))) (drop (sectorsOf track) statuses₀) (r .sector) 1
               (omega (arith, length-tab (sectorsOf track) (statusBy (i .done)), next .sector))
@@ -215,7 +215,7 @@ module _ {ring : List ℕ} {track start : ℕ} {payloads₀ statuses₀ payloads
           passed = passes (i .passed) r next;
           laid = i .laid ∙ ap (λ (l : List ℕ). l ++ drop (256 * sectorsOf track) payloads₀)
               (joined-same (sectorsOf track) (payloadBy (i .done)) (payloadBy (i .done ++ (r ∷ [])))
-              (λ j l. ap (λ (y : Handed). bytesOf y) (same j)));
+              (λ j l. ap (λ (y : Handed). bytesGiven y) (same j)));
           told = i .told ∙ ap (λ (l : List ℕ). l ++ drop (sectorsOf track) statuses₀) tabs;
           count = (let e : n + 0 ≡ n = omega arith in e) ∙ i .count ∙ ap (countOf 1) tabs;
         }

@@ -19,7 +19,7 @@ use Rattle.geometry.specs.Zones.{sectorsOf}
 use Rattle.ring.specs.Bit.{bits, bitAt}
 use Rattle.scan.specs.declared.SectorRecord.{SectorRecord}
 use Rattle.track_read.specs.Reading.{Handed, Given, NotGiven, firstOf, readSector}
-use Rattle.track_read.specs.Reading.{bytesOf, statusOf, readPayloads, readStatuses, standing}
+use Rattle.track_read.specs.Reading.{bytesGiven, statusOf, readPayloads, readStatuses, standing}
 use Rattle.scan.specs.Scan.{records}
 use Rattle.scan.proofs.ScanLaws.{Every, Any}
 use Rattle.scan.proofs.EachRecord.{each-next}
@@ -55,15 +55,15 @@ module _ (P : SectorRecord → Type 0) (j : ℕ) where
 
 -- ---- sizes
 first-sized-by : (j : ℕ) (l : List SectorRecord) → (firstOf j l ≡ NotGiven) ⊎ GivenBy Sized j (firstOf j l)
-    → length (bytesOf (firstOf j l)) ≡ 256
-first-sized-by j l (inl e) = ap (λ (y : Handed). length (bytesOf y)) e
-first-sized-by j l (inr (r, s, q, e)) = ap (λ (y : Handed). length (bytesOf y)) e ∙ s
+    → length (bytesGiven (firstOf j l)) ≡ 256
+first-sized-by j l (inl e) = ap (λ (y : Handed). length (bytesGiven y)) e
+first-sized-by j l (inr (r, s, q, e)) = ap (λ (y : Handed). length (bytesGiven y)) e ∙ s
 
-pub first-sized : (l : List SectorRecord) → Every Sized l → (j : ℕ) → length (bytesOf (firstOf j l)) ≡ 256
+pub first-sized : (l : List SectorRecord) → Every Sized l → (j : ℕ) → length (bytesGiven (firstOf j l)) ≡ 256
 first-sized l t j = first-sized-by j l (first-cases Sized j l t)
 
 module _ (ring : List ℕ) (track start : ℕ) where
-  pub reading-sized : (j : ℕ) → length (bytesOf (readSector ring track start j)) ≡ 256
+  pub reading-sized : (j : ℕ) → length (bytesGiven (readSector ring track start j)) ≡ 256
   reading-sized =
       first-sized (records ring track start)
       (each-next (bitAt ring) track (endOf ring start) Sized (start % bits ring) (λ c r l i. i .long))
@@ -72,7 +72,7 @@ module _ (ring : List ℕ) (track start : ℕ) where
   count-statuses = length-tab (sectorsOf track) (λ j. statusOf (readSector ring track start j))
 
   -- ---- what stands in front of the buffers
-  told : (h : Handed) → h ≡ pick (eqb (statusOf h) 1) (Given (bytesOf h)) NotGiven
+  told : (h : Handed) → h ≡ pick (eqb (statusOf h) 1) (Given (bytesGiven h)) NotGiven
   told (Given bytes) = refl
   told NotGiven = refl
 
@@ -80,7 +80,7 @@ module _ (ring : List ℕ) (track start : ℕ) where
       → readSector ring track start j ≡ standing (readPayloads ring track start ++ rest) (readStatuses ring track start ++ more) j
   stands rest more j l =
       let status : ℕ → ℕ = λ i. statusOf (readSector ring track start i) in
-      let bytes : ℕ → List ℕ = λ i. bytesOf (readSector ring track start i) in
+      let bytes : ℕ → List ℕ = λ i. bytesGiven (readSector ring track start i) in
       told (readSector ring track start j)
       ∙ ap₂ (λ (s : ℕ) (p : List ℕ). pick (eqb s 1) (Given p) NotGiven)
       (sym (List·getD-append (readStatuses ring track start) more 0 j (omega (arith, count-statuses))

@@ -25,9 +25,9 @@ readSector ring track start j = firstOf j (records ring track start)
 
 -- ---- as bytes and status numbers
 -- the bytes: zeros where it is not given
-abbrev pub bytesOf : Handed → List ℕ
-bytesOf (Given bytes) = bytes
-bytesOf NotGiven = replicate 256 0
+abbrev pub bytesGiven : Handed → List ℕ
+bytesGiven (Given bytes) = bytes
+bytesGiven NotGiven = replicate 256 0
 
 abbrev pub statusOf : Handed → ℕ
 statusOf (Given bytes) = 1
@@ -35,7 +35,7 @@ statusOf NotGiven = 2
 
 -- the payloads of all sectors of the track
 abbrev pub readPayloads : List ℕ → ℕ → ℕ → List ℕ
-readPayloads ring track start = joined (sectorsOf track) (λ j. bytesOf (readSector ring track start j))
+readPayloads ring track start = joined (sectorsOf track) (λ j. bytesGiven (readSector ring track start j))
 
 -- the status list beside them
 abbrev pub readStatuses : List ℕ → ℕ → ℕ → List ℕ

@@ -1,7 +1,7 @@
 use native.Mathlib.Omega.{arith}
 use borrow.Author.Needs.{needs}
 use Rattle.base.specs.Refusals.{ringEmpty, ringTooLong, wrongImage}
-use Rattle.lister.specs.Listing.{refusedLine, listing}
+use Rattle.lister.specs.Listing.{refusalLine, listing}
 use Rattle.lister.proofs.Answer.{wrong-listing, empty-listing, long-listing, ring-listing, rest-is, header-there, put-same}
 use Rattle.lister.proofs.put_listing.Statement.{statement}
 use Rattle.lister.proofs.put_listing.Tie as tie
@@ -33,7 +33,7 @@ returns c =
     let p = c .before .before in
     let e = p .before .before .before .before .before in
     let a = e .before .before .before .args in
-    put-same (a .out .now) (p .put-refused .last .0) (refusedLine ringEmpty) (listing (a .input .now)) (p .put-refused .result)
+    put-same (a .out .now) (p .put-refused .last .0) (refusalLine ringEmpty) (listing (a .input .now)) (p .put-refused .result)
     (empty-listing (a .input .now) (e .is-envelope .result) (e .is-envelope .ensures) (p .before .before .before .before .if1 .taken) _
     (rest-is (a .input .now)) (p .before .before .if2 .taken))
     (p .put-refused .ensures)
@@ -49,7 +49,7 @@ returns-2 c =
     let p = c .before .before in
     let e = p .before .before .before .before .before .before in
     let a = e .before .before .before .args in
-    put-same (a .out .now) (p .put-refused2 .last .0) (refusedLine ringTooLong) (listing (a .input .now)) (p .put-refused2 .result)
+    put-same (a .out .now) (p .put-refused2 .last .0) (refusalLine ringTooLong) (listing (a .input .now)) (p .put-refused2 .result)
     (long-listing (a .input .now) (e .is-envelope .result) (e .is-envelope .ensures)
     (p .before .before .before .before .before .if1 .taken) _ (rest-is (a .input .now)) (p .before .before .before .if2 .left)
     (p .before .before .if3 .taken))
@@ -91,7 +91,7 @@ returns-4 c =
     let p = c .before .before in
     let e = p .before .before .before in
     let a = e .before .before .before .args in
-    put-same (a .out .now) (p .put-refused3 .last .0) (refusedLine wrongImage) (listing (a .input .now)) (p .put-refused3 .result)
+    put-same (a .out .now) (p .put-refused3 .last .0) (refusalLine wrongImage) (listing (a .input .now)) (p .put-refused3 .result)
     (wrong-listing (a .input .now) (e .is-envelope .result) (e .is-envelope .ensures) (p .before .before .if1 .left))
     (p .put-refused3 .ensures)
 
