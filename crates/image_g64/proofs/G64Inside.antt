@@ -2,14 +2,14 @@
 use mathlib.Core.Path.{_≡_}
 use mathlib.Core.Bool.{_&&_, not}
 use mathlib.Core.List.{List}
-use Prim.Native.Nat.{ℕ, zero, suc, _+_}
+use Prim.Native.Nat.{ℕ, _+_}
 use native.Mathlib.Omega.{arith}
 use lib.Dec.{leb, ltb, eqb}
 use lib.ListN.{length}
 use borrow.Author.Tests.{leb-true}
 use Rattle.base.specs.Bytes.{twoBytes}
-use Rattle.base.specs.Refusals.{unless}
 use Rattle.base.proofs.Picks.{pick-ind, and-right}
+use Rattle.base.proofs.Refusing.{unless-ind}
 use Rattle.geometry.specs.Zones.{within}
 use Rattle.image_rings.specs.declared.Place.the-variants.{Absent}
 use Rattle.image_rings.specs.Rings.{tableOf, noTable}
@@ -30,12 +30,6 @@ entry-inside image half =
     pick-ind (Inside (length image)) (ltb half (halfTracks image) && not (eqb (offsetOf image half) 0))
     (ringAt image (offsetOf image half)) Absent
     (λ e. ring-inside image (offsetOf image half)) (λ e. absent-inside (length image))
-
--- what holds of each refusal and of what follows holds
-unless-ind : {A : Type 0} (P : A → Type 0) (n : ℕ) (refuse : ℕ → A) (good : A) → ((m : ℕ) → P (refuse m)) → P good
-    → P (unless n refuse good)
-unless-ind P zero refuse good r g = g
-unless-ind P (suc n) refuse good r g = r (suc n)
 
 pub g64-inside : (image : List ℕ) → AllInside (length image) (g64Table image)
 unfolding g64Table

@@ -2,7 +2,7 @@
 ghost use mathlib.Core.Path.{_≡_};
 ghost use Prim.Native.Nat.{_+_, _<_, _≤_};
 ghost use lib.ListN.{length};
-ghost use Rattle.geometry.specs.D64.{d64Place};
+ghost use Rattle.geometry.specs.D64.{d64Place, lastTrack};
 ghost use Rattle.sector.specs.Rules.{ruleOf};
 ghost use Rattle.image_rings.specs.Rings.{startOf, lengthOf};
 ghost use Rattle.image_d64.specs.D64.{d64Zeroed, OnTracks};
@@ -84,7 +84,7 @@ fn zero_at(image: &mut [u8], place: Place, rule: Rule, track: u8, sector: u8)
 
 // Makes a sector of an image zeros, by the rule of its kind, where the ring of its track is at a place.
 pub fn zero_here(image: &mut [u8], kind: Kind, place: Place, track: u8, sector: u8)
-    requires { ⌜ OnTracks 35 track sector ⌝ }
+    requires { ⌜ OnTracks lastTrack track sector ⌝ }
     requires { ⌜ InPlace kind place (length (now image)) ⌝ }
     ensures { λ r. ⌜ now (image .exit) ≡ mediumAt kind place .zeroed track sector (now (image .entry)) ⌝ }
 {

@@ -4,20 +4,19 @@
 use Prim.Native.Nat.{ℕ, zero, suc, _+_, _-_, _*_, _≤_, _<_}
 use mathlib.Core.Path.{_≡_, refl, sym, ap, _∙_, subst}
 use mathlib.Core.Logic.{_≢_}
-use mathlib.Core.Bool.{Bool, true, false, _&&_}
+use mathlib.Core.Bool.{Bool, true, false}
 use mathlib.Core.List.{List, [], _∷_, _++_}
 use native.Mathlib.Nat.{zero-mod, zero-add}
 use native.Mathlib.Omega.{arith}
 use native.Mathlib.Decide.{decLt}
-use lib.Dec.{eqb, leb}
+use lib.Dec.{eqb}
 use lib.ListN.{length}
 use Rattle.base.specs.Choice.{pick}
 use Rattle.base.proofs.Tests.{eqb-yes}
 use Rattle.ring.specs.Bit.{bits, bitAt}
 use Rattle.scan_sync.specs.declared.SyncEnd.{SyncEnd}
 use Rattle.scan_sync.specs.declared.SyncEnd.the-variants.{At, Nothing}
-use Rattle.scan_sync.specs.Sync.{run, syncFrom, syncEnd}
-use Rattle.scan_sync.proofs.SyncLaws.{SyncFound, sync-complete}
+use Rattle.scan_sync.proofs.SyncLaws.{SyncFound, sync-complete, none-at, further}
 use Rattle.scan_visit.specs.Visit.{visit}
 use Rattle.scan.specs.declared.SectorRecord.{SectorRecord}
 use Rattle.scan.specs.Scan.{nextSync, recordsFrom, records}
@@ -26,23 +25,6 @@ use Rattle.scan.proofs.ScanLaws.{Every, every-map, onStep, next-yes, next-found
 use Rattle.scan.proofs.NextLaws.{NextIs, over, no-sync, at-sync, first-is}
 use Rattle.track_read.specs.Reading.{Given, firstOf, statusOf}
 use Rattle.page_slot.specs.Turn.{turnRecords}
-
-none-at : (h : ℕ) → Nothing ≡ At h → ⊥
-none-at h e = let z : _≡_ {A = ℕ} 0 1 = cc in omega arith
-
--- ---- a search that goes further finds the same sync end
-further : (x : ℕ → ℕ) (n m p c h : ℕ) → n ≤ m → syncFrom x n p c ≡ At h → syncFrom x m p c ≡ At h
-unfolding syncFrom
-further x zero m p c h l e = absurd (none-at h e)
-further x (suc n) zero p c h l e = absurd (omega arith)
-further x (suc n) (suc m) p c h l e =
-    go (eqb (x p) 0 && leb 10 c) e (λ q. further x n m (p + 1) (run (x p) c) h (omega arith) q)
-  where
-    go : (b : Bool) → pick b (At p) (syncFrom x n (p + 1) (run (x p) c)) ≡ At h
-        → (syncFrom x n (p + 1) (run (x p) c) ≡ At h → syncFrom x m (p + 1) (run (x p) c) ≡ At h)
-        → pick b (At p) (syncFrom x m (p + 1) (run (x p) c)) ≡ At h
-    go true q ih = q
-    go false q ih = ih q
 
 -- ---- two scans of the same bits, one with an earlier end
 module _ (x : ℕ → ℕ) (track near far : ℕ) (l : near ≤ far) where

@@ -7,6 +7,7 @@ use lib.ListN.{getD}
 use Rattle.base.specs.Bits.{bitOf}
 use Rattle.base.specs.declared.Sector.{Sector}
 use Rattle.geometry.specs.Zones.{sectorsOf, within}
+use Rattle.geometry.specs.D64.{lastTrack}
 use Rattle.reclaim_directory.specs.Marks.{noMarks, marked, mark}
 
 -- what reading a sector answers, by its track and its number, by the rule of the image's kind
@@ -42,13 +43,13 @@ bitmapFree bytes place sector = eqb (bitOf (getD bytes (place + sector / 8) 0) (
 unfoldable pub entryFree : List ℕ → ℕ → ℕ → ℕ → ℕ → Bool
 entryFree bytes place first track sector = bitmapFree bytes (place + 4 * (track - first) + 1) sector
 
--- tracks 1 to 35 are cleared, by the entries in 18/0 from byte 4 on; 18/0 is kept; there are marks for 42 tracks
+-- tracks 1 to `lastTrack` are cleared, by the entries in 18/0 from byte 4 on; 18/0 is kept; there are marks for 42 tracks
 abbrev pub disk1541 : Disk
 disk1541 =
     record {
       sectors = sectorsOf;
-      highest = 35;
-      last = 35;
+      highest = lastTrack;
+      last = lastTrack;
       free = λ read. entryFree (bamSector read .bytes) 4 1;
       kept = address 18 0 ∷ [];
       marks = 882;

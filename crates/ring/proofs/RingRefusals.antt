@@ -1,8 +1,7 @@
 -- What `ring::refusal_of` tells.
 --     is-ring, no-refusal      what is not refused is a ring, and a ring is not refused
 --     ring-refused, ring-fine  a table of refusals that begins with those of a ring
---     unless-some              what a refusal comes to, by the number that a function answered
-use Prim.Native.Nat.{ℕ, zero, suc, _≤_, _<_}
+use Prim.Native.Nat.{ℕ, _≤_, _<_}
 use mathlib.Core.Path.{_≡_, refl, sym, _∙_}
 use mathlib.Core.Logic.{_≢_}
 use mathlib.Core.List.{List, [], _∷_}
@@ -11,13 +10,9 @@ use native.Mathlib.Omega.{arith}
 use lib.Dec.{eqb, ltb}
 use lib.ListN.{length}
 use Rattle.base.specs.Limits.{longestRing}
-use Rattle.base.specs.Refusals.{Line, ringEmpty, ringTooLong, _when_, refusal, unless}
+use Rattle.base.specs.Refusals.{Line, ringEmpty, ringTooLong, _when_, refusal}
 use Rattle.base.proofs.Tests.{eqb-yes, eqb-no, ltb-yes, ltb-no}
 use Rattle.ring.specs.Bit.{IsRing, ringRefusal}
-
-pub unless-some {ℓ} : {A : Type ℓ} (m n : ℕ) (refuse : ℕ → A) (good : A) → n ≡ m → n ≢ 0 → unless m refuse good ≡ refuse n
-unless-some m zero refuse good e z = absurd (z refl)
-unless-some m (suc n) refuse good e z = rw (← e) refl
 
 -- ---- the three ways
 module _ (n : ℕ) (more : List Line) where

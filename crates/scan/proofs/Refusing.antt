@@ -9,8 +9,9 @@ use lib.ListN.{length}
 use Rattle.base.specs.Limits.{longestRing}
 use Rattle.base.specs.Refusals.{noRoom, tooManyRecords, _when_}
 use Rattle.base.proofs.Tests.{ltb-no, leb-yes, leb-no}
+use Rattle.base.proofs.Refusing.{unless-some}
 use Rattle.ring.specs.Bit.{IsRing, ringRefusal}
-use Rattle.ring.proofs.RingRefusals.{unless-some, no-refusal, ring-refused}
+use Rattle.ring.proofs.RingRefusals.{no-refusal, ring-refused}
 use Rattle.scan.specs.Scan.{records, mostRecords}
 use Rattle.scan.specs.Answers.{scanRefusal, roomToScan, scanned, rowsAfter, payloadsAfter}
 use Rattle.scan.specs.Inside.{Listed}

@@ -8,6 +8,7 @@ use lib.ListN.{length, getD, drop, length-append}
 use native.Mathlib.Omega.{arith}
 use Rattle.base.specs.Choice.{pick}
 use Rattle.base.proofs.Tests.{ltb-yes, ltb-no, leb-yes, lt-of}
+use Rattle.base.proofs.Refusing.{unless-by}
 use Rattle.scan.specs.declared.SectorRecord.{SectorRecord}
 use Rattle.scan.specs.declared.Scanned.{Scanned}
 use Rattle.scan.specs.declared.Scanned.the-variants.{Records, Refused}
@@ -18,7 +19,7 @@ use Rattle.scan_rows.specs.declared.Row.{Row}
 use Rattle.scan_rows.specs.Rows.{laid, refusedRow, noRow, rowAt}
 use Rattle.scan_rows.specs.Answers.{scannedInto, rowsAfter, nthRecord}
 use Rattle.scan_rows.specs.Inside.{refusalOf, ofScan}
-use Rattle.scan_rows.proofs.Refusing.{unless-by, the-number, answer-by, rows-by}
+use Rattle.scan_rows.proofs.Refusing.{the-number, answer-by, rows-by}
 
 -- ---- `of_scan`
 pub of-scan-in : (row : Row) (n : ℕ) (answer : Scanned) (count : ℕ) → answer ≡ Records count → n < count → row ≡ ofScan row n answer

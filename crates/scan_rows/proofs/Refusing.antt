@@ -9,7 +9,8 @@ use native.Mathlib.Omega.{arith}
 use Rattle.base.specs.Choice.{pick}
 use Rattle.base.specs.Limits.{longestRing}
 use Rattle.base.specs.Refusals.{unless}
-use Rattle.base.proofs.Tests.{eqb-no, from-true, le-of}
+use Rattle.base.proofs.Tests.{from-true, le-of}
+use Rattle.base.proofs.Refusing.{unless-by}
 use Rattle.ring.specs.Bit.{IsRing}
 use Rattle.scan.specs.declared.SectorRecord.{SectorRecord}
 use Rattle.scan.specs.declared.Scanned.the-variants.{Records, Refused}
@@ -22,11 +23,6 @@ use Rattle.scan_rows.specs.Inside.{refusalOf}
 above-zero : (n : ℕ) → eqb n 0 ≡ false → 0 < n
 above-zero zero e = absurd (subst (λ (t : Bool). Holds t) e tt)
 above-zero (suc n) e = omega arith
-
--- what follows a table of refusals, by a test of its number
-pub unless-by : {A : Type 0} (n : ℕ) (refuse : ℕ → A) (good : A) → unless n refuse good ≡ pick (eqb n 0) good (refuse n)
-unless-by zero refuse good = refl
-unless-by (suc n) refuse good = rw (eqb-no (suc n) 0 (λ z. omega arith))
 
 module _ (ring : List ℕ) (track start : ℕ) (rows : List SectorRecord) where
   abbrev number : ℕ

@@ -3,13 +3,14 @@
 --     sync-sound       what is found is one, with its ten ones among the places searched
 --     sync-complete    one among the places searched is found, or one before it
 --     passed           ones are passed, and counted
+--     further          a search that goes further finds the same
 use mathlib.Core.Path.{_≡_, sym, ap, ap₂, _∙_, subst}
 use mathlib.Core.Logic.{_≢_}
-use mathlib.Core.Bool.{Bool, _&&_}
+use mathlib.Core.Bool.{Bool, true, false, _&&_}
 use Prim.Native.Nat.{ℕ, zero, suc, _+_, _-_, _≤_, _<_}
 use native.Mathlib.Omega.{arith}
 use native.Mathlib.Decide.{decLe, ℕ-discrete}
-use lib.Dec.{leb}
+use lib.Dec.{eqb, leb}
 use Rattle.base.specs.Choice.{pick}
 use Rattle.base.proofs.Tests.{eqb-yes, eqb-no, leb-yes, leb-no}
 use Rattle.scan_sync.specs.declared.SyncEnd.the-variants.{At, Nothing}
@@ -101,6 +102,23 @@ sync-complete x c (suc k) p q sy l m w =
         next : Dec (p ≡ q) → p + 1 ≤ q
         next (yes f) = absurd (z (ap x f ∙ sy .zer))
         next (no f) = omega arith
+
+pub none-at : (h : ℕ) → Nothing ≡ At h → ⊥
+none-at h e = let z : _≡_ {A = ℕ} 0 1 = cc in omega arith
+
+-- a search that goes further finds the same sync end
+pub further : (x : ℕ → ℕ) (n m p c h : ℕ) → n ≤ m → syncFrom x n p c ≡ At h → syncFrom x m p c ≡ At h
+unfolding syncFrom
+further x zero m p c h l e = absurd (none-at h e)
+further x (suc n) zero p c h l e = absurd (omega arith)
+further x (suc n) (suc m) p c h l e =
+    go (eqb (x p) 0 && leb 10 c) e (λ q. further x n m (p + 1) (run (x p) c) h (omega arith) q)
+  where
+    go : (b : Bool) → pick b (At p) (syncFrom x n (p + 1) (run (x p) c)) ≡ At h
+        → (syncFrom x n (p + 1) (run (x p) c) ≡ At h → syncFrom x m (p + 1) (run (x p) c) ≡ At h)
+        → pick b (At p) (syncFrom x m (p + 1) (run (x p) c)) ≡ At h
+    go true q ih = q
+    go false q ih = ih q
 
 -- no place is left
 pub loop-out : (x : ℕ → ℕ) (c n s off : ℕ) → n ≤ off → syncFrom x (n - off) (s + off) c ≡ Nothing

@@ -6,8 +6,8 @@ use mathlib.Core.Bool.{true}
 use mathlib.Core.List.{List}
 use lib.ListN.{length}
 use Rattle.base.specs.Refusals.{noRoom}
+use Rattle.base.proofs.Refusing.{unless-some}
 use Rattle.ring.specs.Bit.{IsRing, ringRefusal}
-use Rattle.ring.proofs.RingRefusals.{unless-some}
 use Rattle.track_read.specs.Answers.{roomToRead, readRefusal, trackRead, trackPayloads, trackStatuses}
 use Rattle.track_read.specs.Inside.{ReadInto}
 use Rattle.track_read.specs.declared.TrackRead.{TrackRead}

@@ -33,7 +33,7 @@ returns-3 c =
     kind-size (c .before .before .before .before .before .before .before .before .args .image .now)
     (sym (c .before .before .before .before .before .before .is-g64 .ensures) ∙ c .before .before .before .before .before .if1 .left)
     (sym (c .before .before .before .before .is-nib .ensures) ∙ c .before .before .before .if2 .left) _
-    (sym (c .before .before .tracks-of .ensures) ∙ c .enum-told .given .1)
+    (sym (c .before .before .tracks-of .ensures .0) ∙ c .enum-told .given .1)
 
 returns-4 : tie.Need-returns-4
 returns-4 c =
@@ -41,7 +41,7 @@ returns-4 c =
     (sym (c .before .before .before .before .before .before .before .is-g64 .ensures) ∙ c .before .before .before .before .before
     .before .if1 .left)
     (sym (c .before .before .before .before .before .is-nib .ensures) ∙ c .before .before .before .before .if2 .left) _
-    (sym (c .before .before .before .tracks-of .ensures) ∙ c .before .n .given .1)
+    (sym (c .before .before .before .tracks-of .ensures .0) ∙ c .before .n .given .1)
 
 pub image-kind-spec : {M : Type 1} → statement M
 image-kind-spec =

@@ -1,4 +1,5 @@
 use Rattle.image_sector.proofs.MediumSteps.{zeroed-as}
+use Rattle.geometry.specs.D64.{lastTrack}
 use Rattle.geometry.proofs.D64Laws.{offset-in}
 use Rattle.image_kind.specs.declared.Kind.the-variants.{D64, G64, Nib, Unknown}
 use lib.ListN.{length}
@@ -17,7 +18,7 @@ zero-block-requires c κs =
     let o = s .pre .0 in
     omega (
       arith,
-      offset-in 35 (s .args .track) (s .args .sector) (o .some) (o .highest) (o .below),
+      offset-in lastTrack (s .args .track) (s .args .sector) (o .some) (o .highest) (o .below),
       s .pre .1 .sectors _ (c .before .enum-told .given .1),
     )
 
