@@ -7,13 +7,13 @@ use reclaim::Outcome;
 
 fn refuse(number: u8) {
     let mut line = [0u8; 128];
-    let n = page::refused_line(&mut line, 0, number);
+    let n = page_lines::refused_line(&mut line, 0, number);
     io::write_all(STDERR_FILENO, page::so_far(&line, n));
 }
 
 fn tell(free: usize, changed: usize) {
     let mut line = [0u8; 128];
-    let n = page::cleared_line(&mut line, 0, free, changed);
+    let n = page_lines::cleared_line(&mut line, 0, free, changed);
     io::write_all(STDERR_FILENO, page::so_far(&line, n));
 }
 

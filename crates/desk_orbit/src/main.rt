@@ -11,7 +11,7 @@ use nib_catalogue::Pairs;
 
 fn refuse(number: u8) {
     let mut line = [0u8; 128];
-    let n = page::refused_line(&mut line, 0, number);
+    let n = page_lines::refused_line(&mut line, 0, number);
     io::write_all(STDERR_FILENO, page::so_far(&line, n));
 }
 

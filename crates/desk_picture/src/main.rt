@@ -6,7 +6,7 @@ use libc::STDOUT_FILENO;
 
 fn refuse(number: u8) {
     let mut line = [0u8; 128];
-    let n = page::refused_line(&mut line, 0, number);
+    let n = page_lines::refused_line(&mut line, 0, number);
     io::write_all(STDERR_FILENO, page::so_far(&line, n));
 }
 

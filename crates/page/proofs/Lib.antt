@@ -1,5 +1,2 @@
 pub mod PieceLaws
 pub mod PageLaws
-pub mod Lengths
-pub mod TallyLaws
-pub mod TallyLengths

@@ -1,9 +1,8 @@
 -- The words that lines are made of.
 use Prim.Native.Nat.{ℕ}
-use mathlib.Core.List.{List, [], _∷_, _++_}
+use mathlib.Core.List.{List, _++_}
 use Rattle.base.specs.Words.{ascii}
 use Rattle.page_text.specs.Numerals.{decimal, hexOf}
-use Rattle.page.specs.Page.{Text}
 
 -- a number in decimal, behind a space
 abbrev pub numberText : ℕ → List ℕ
@@ -16,10 +15,3 @@ sumText s = ascii " sum " ++ hexOf 8 s
 -- a refusal by its number
 abbrev pub refusedText : ℕ → List ℕ
 refusedText n = ascii "refused " ++ decimal n
-
--- ---- what a program answers: a refusal; sectors free and sectors changed
-abbrev pub refusedLine : ℕ → Text
-refusedLine number = refusedText number ∷ ascii "\n" ∷ []
-
-abbrev pub clearedLine : ℕ → ℕ → Text
-clearedLine free changed = ascii "free" ∷ numberText free ∷ ascii " changed" ∷ numberText changed ∷ ascii "\n" ∷ []

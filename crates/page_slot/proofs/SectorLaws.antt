@@ -10,7 +10,7 @@ use Rattle.page.specs.Page.{together, Page, writes}
 use Rattle.page.proofs.PageLaws.{nothing, then}
 use Rattle.track_read.specs.Answers.{ringStatuses}
 use native.Mathlib.Nat.{sub-zero}
-use Rattle.page.specs.Tally.{tallyText}
+use Rattle.page_lines.specs.Tally.{tallyText}
 use Rattle.page_slot.specs.Turn.{turnStatuses}
 use Rattle.page_slot.specs.Sectors.{lostAt, lostText, foundText, sectorsText}
 

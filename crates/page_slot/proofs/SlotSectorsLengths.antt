@@ -13,8 +13,8 @@ use Rattle.track_read.specs.Answers.{ringStatuses}
 use Rattle.track_read.proofs.StatusLaws.{ring-count}
 use Rattle.base.proofs.Picks.{pick-ind}
 use Rattle.page_text.proofs.DecimalLaws.{decimal-width}
-use Rattle.page.specs.Tally.{tallyText}
-use Rattle.page.proofs.TallyLengths.{tally-long}
+use Rattle.page_lines.specs.Tally.{tallyText}
+use Rattle.page_lines.proofs.TallyLengths.{tally-long}
 use Rattle.page_slot.specs.Turn.{turnStatuses}
 use Rattle.page_slot.specs.Sectors.{has, whereabouts, lostAt, lostText, foundText, sectorsText}
 

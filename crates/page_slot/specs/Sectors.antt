@@ -9,7 +9,7 @@ use Rattle.page.specs.Wording.{numberText}
 use Rattle.base.specs.Words.{ascii}
 use Rattle.page.specs.Page.{Text, together}
 use Rattle.track_read.specs.Answers.{ringStatuses}
-use Rattle.page.specs.Tally.{tallyText}
+use Rattle.page_lines.specs.Tally.{tallyText}
 use Rattle.page_slot.specs.Turn.{turnStatuses}
 
 -- status 1: the sector is found

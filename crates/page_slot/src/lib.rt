@@ -93,8 +93,8 @@ fn put_found(page: &mut [u8], at: usize, ring: &[u8], turn: &[u8], window: &[u8]
     ensures { λ r. ⌜ sheet (now (page .exit)) r ≡ writes (sheet (now (page .entry)) at)
         (foundText (now (ring .entry)) (now (turn .entry)) (now (window .entry))) ⌝ }
 {
-    let a = page::tally(page, at, b" ring", ring);
-    let b = page::tally(page, a, b" window", window);
+    let a = page_lines::tally(page, at, b" ring", ring);
+    let b = page_lines::tally(page, a, b" window", window);
     put_lost(page, b, ring, turn, window)
 }
 

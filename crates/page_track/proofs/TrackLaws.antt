@@ -9,7 +9,7 @@ use Rattle.base.specs.Words.{ascii}
 use Rattle.page.specs.Page.{Text, Page, writes}
 use Rattle.page.proofs.PageLaws.{nothing, then}
 use Rattle.image_statuses.specs.Statuses.{isShown}
-use Rattle.page.specs.Tally.{tallyText}
+use Rattle.page_lines.specs.Tally.{tallyText}
 use Rattle.page_track.specs.Tracks.{trackLine, ifShown}
 
 -- ---- the line of a track

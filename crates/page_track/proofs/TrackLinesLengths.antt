@@ -12,9 +12,9 @@ use Rattle.image_statuses.specs.Statuses.{statusesOf, isShown}
 use Rattle.image_statuses.proofs.StatusLaws.{status-count}
 use Rattle.base.proofs.Picks.{pick-ind}
 use Rattle.page_text.proofs.DecimalLaws.{decimal-width}
-use Rattle.page.specs.Tally.{tallyText}
+use Rattle.page_lines.specs.Tally.{tallyText}
 use Rattle.page_track.specs.Tracks.{trackLine, ifShown, trackText}
-use Rattle.page.proofs.TallyLengths.{tally-long}
+use Rattle.page_lines.proofs.TallyLengths.{tally-long}
 
 line-long : (track : ℕ) (statuses : List ℕ) → track < 256 → length statuses ≤ 21 → Within 200 (trackLine track statuses)
 unfolding trackLine allOf

@@ -7,7 +7,7 @@ use Rattle.page.specs.Wording.{numberText}
 use Rattle.base.specs.Words.{ascii}
 use Rattle.page.specs.Page.{Text}
 use Rattle.image_statuses.specs.Statuses.{statusesOf, isShown}
-use Rattle.page.specs.Tally.{tallyText}
+use Rattle.page_lines.specs.Tally.{tallyText}
 
 -- the line of a track, by its statuses
 unfoldable pub trackLine : ℕ → List ℕ → Text

@@ -9,7 +9,7 @@ fn put_statuses(page: &mut [u8], at: usize, track: u8, statuses: &[u8]) -> usize
 {
     let a = page::counted(page, at, b"track", track as u64);
     if base::any_nonzero(statuses) {
-        let b = page::tally(page, a, b" reads", statuses);
+        let b = page_lines::tally(page, a, b" reads", statuses);
         return page::words(page, b, b"\n");
     }
     page::words(page, a, b" absent\n")

@@ -1,7 +1,7 @@
-use Rattle.page.proofs.TallyLaws.{reads-at, unread-put}
+use Rattle.page_lines.proofs.TallyLaws.{reads-at, unread-put}
 use borrow.Author.Needs.{needs}
-use Rattle.page.proofs.put_unread_at.Statement.{statement}
-use Rattle.page.proofs.put_unread_at.Tie as tie
+use Rattle.page_lines.proofs.put_unread_at.Statement.{statement}
+use Rattle.page_lines.proofs.put_unread_at.Tie as tie
 
 shared-slice-read-if1 : tie.Need-shared-slice-read-if1
 shared-slice-read-if1 c = search needs

@@ -1,7 +1,7 @@
-use Rattle.page.proofs.TallyLaws.{tally-all, tally-some}
+use Rattle.page_lines.proofs.TallyLaws.{tally-all, tally-some}
 use borrow.Author.Needs.{needs}
-use Rattle.page.proofs.tally.Statement.{statement}
-use Rattle.page.proofs.tally.Tie as tie
+use Rattle.page_lines.proofs.tally.Statement.{statement}
+use Rattle.page_lines.proofs.tally.Tie as tie
 
 count-reading-requires : tie.Need-count-reading-requires
 count-reading-requires c κs = search needs

@@ -3,9 +3,9 @@ use Prim.Native.Nat.{ℕ, _<_, _^_}
 use native.Mathlib.Omega.{arith}
 use lib.ListN.{length-append}
 use Rattle.page_text.proofs.DecimalLaws.{decimal-width}
 use Rattle.page.specs.Page.{allOf}
-use Rattle.page.specs.Wording.{refusedLine, clearedLine}
+use Rattle.page_lines.specs.Answers.{refusedLine, clearedLine}
 use Rattle.page.proofs.PageLaws.{Within}
 
 -- numbers of a machine
 pub cleared-fits : (free changed : ℕ) → free < 10 ^ 20 → changed < 10 ^ 20 → Within 128 (clearedLine free changed)

@@ -3,9 +3,9 @@ use Prim.Native.Nat.{_+_, _≤_}
 use native.Mathlib.Omega.{arith}
 use lib.ListN.{length, drop}
 use Rattle.base.specs.Lists.{countOf}
-use Rattle.page.proofs.TallyLaws.{count-none, count-yes, count-no}
-use Rattle.page.proofs.count_reading.Statement.{statement}
-use Rattle.page.proofs.count_reading.Tie as tie
+use Rattle.page_lines.proofs.TallyLaws.{count-none, count-yes, count-no}
+use Rattle.page_lines.proofs.count_reading.Statement.{statement}
+use Rattle.page_lines.proofs.count_reading.Tie as tie
 
 abbrev Inv-loop : tie.InvT-loop
 Inv-loop statuses count₀ j₀ count j = (count + j ≤ length statuses) × (count ≡ countOf 1 (drop j statuses))

@@ -1,7 +1,7 @@
 use Rattle.page.proofs.PageLaws.{then}
 use borrow.Author.Needs.{needs}
-use Rattle.page.proofs.cleared_line.Statement.{statement}
-use Rattle.page.proofs.cleared_line.Tie as tie
+use Rattle.page_lines.proofs.cleared_line.Statement.{statement}
+use Rattle.page_lines.proofs.cleared_line.Tie as tie
 
 slice-aggregate-counted : tie.Need-slice-aggregate-counted
 slice-aggregate-counted c = search needs

@@ -1,10 +1,10 @@
 use Rattle.page.proofs.PageLaws.{then}
 use Rattle.base.specs.Words.{ascii}
 use mathlib.Core.List.{[], _∷_}
-use Rattle.page.specs.Tally.{unread}
+use Rattle.page_lines.specs.Tally.{unread}
 use borrow.Author.Needs.{needs}
-use Rattle.page.proofs.put_missing.Statement.{statement}
-use Rattle.page.proofs.put_missing.Tie as tie
+use Rattle.page_lines.proofs.put_missing.Statement.{statement}
+use Rattle.page_lines.proofs.put_missing.Tie as tie
 
 slice-aggregate-words : tie.Need-slice-aggregate-words
 slice-aggregate-words c = search needs

@@ -2,13 +2,13 @@ use mathlib.Core.Path.{_≡_, refl, _∙_}
 use Prim.Native.Nat.{_-_, _≤_}
 use native.Mathlib.Omega.{arith}
 use lib.ListN.{length}
 use Rattle.page.specs.Page.{sheet, writes, together}
 use Rattle.page.proofs.PageLaws.{none-together, one-more}
-use Rattle.page.specs.Tally.{unreadAt}
-use Rattle.page.proofs.TallyLaws.{all-unread}
+use Rattle.page_lines.specs.Tally.{unreadAt}
+use Rattle.page_lines.proofs.TallyLaws.{all-unread}
 use borrow.Author.Needs.{needs}
-use Rattle.page.proofs.put_unread.Statement.{statement}
-use Rattle.page.proofs.put_unread.Tie as tie
+use Rattle.page_lines.proofs.put_unread.Statement.{statement}
+use Rattle.page_lines.proofs.put_unread.Tie as tie
 
 abbrev Inv-loop : tie.InvT-loop
 Inv-loop page₀ at statuses behind₀ j₀ page behind j =

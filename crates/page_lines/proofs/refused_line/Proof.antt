@@ -1,7 +1,7 @@
 use Rattle.page.proofs.PageLaws.{then}
 use borrow.Author.Needs.{needs}
-use Rattle.page.proofs.refused_line.Statement.{statement}
-use Rattle.page.proofs.refused_line.Tie as tie
+use Rattle.page_lines.proofs.refused_line.Statement.{statement}
+use Rattle.page_lines.proofs.refused_line.Tie as tie
 
 refused-requires : tie.Need-refused-requires
 refused-requires c κs = search needs

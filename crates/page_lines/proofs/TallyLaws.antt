@@ -7,11 +7,11 @@ use lib.ListN.{length, getD, drop}
 use lib.Seq.{drop-cons, drop-length}
 use Rattle.base.specs.Lists.{countOf}
 use Rattle.base.proofs.Tests.{eqb-yes, eqb-no}
 use Rattle.page.specs.Wording.{numberText}
 use Rattle.base.specs.Words.{ascii}
 use Rattle.page.specs.Page.{together, Page, writes}
 use Rattle.page.proofs.PageLaws.{nothing, then}
-use Rattle.page.specs.Tally.{unreadAt, unread, missingText, tallyText}
+use Rattle.page_lines.specs.Tally.{unreadAt, unread, missingText, tallyText}
 
 -- ---- statuses counted from the last one on
 pub count-none : (l : List ℕ) → 0 ≡ countOf 1 (drop (length l) l)

@@ -4,14 +4,14 @@ use Prim.Native.Nat.{ℕ, _+_, _≤_, _<_}
 use native.Mathlib.Omega.{arith}
 use lib.ListN.{length, getD, length-append}
 use Rattle.base.specs.Lists.{countOf}
 use Rattle.page.specs.Wording.{numberText}
 use Rattle.page.specs.Page.{allOf}
 use Rattle.page.proofs.PageLaws.{together-long, Within}
 use lib.Dec.{eqb}
 use Rattle.base.proofs.Picks.{pick-ind}
 use Rattle.base.proofs.Stores.{count-le}
 use Rattle.page_text.proofs.DecimalLaws.{decimal-width}
-use Rattle.page.specs.Tally.{unreadAt, unread, missingText, tallyText}
+use Rattle.page_lines.specs.Tally.{unreadAt, unread, missingText, tallyText}
 
 unread-at-long : (statuses : List ℕ) (j : ℕ) → j < 21 → Within 3 (unreadAt statuses j)
 unfolding allOf

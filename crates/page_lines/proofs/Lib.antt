@@ -1,0 +1,3 @@
+pub mod TallyLaws
+pub mod TallyLengths
+pub mod Lengths
