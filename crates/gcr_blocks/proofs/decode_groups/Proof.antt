@@ -16,7 +16,7 @@ use Rattle.gcr_blocks.proofs.decode_groups.Tie as tie
 use Rattle.gcr_blocks.proofs.decode_groups.Reads as reads
 use Rattle.gcr_blocks.proofs.decode_groups.Lts as lts
 use Rattle.gcr_blocks.proofs.decode_at.Reads as decode-at-reads
-use Rattle.base.proofs.store.Reads as store-reads
+use Rattle.gcr_blocks.proofs.put_four.Reads as put-four-reads
 
 abbrev Inv-loop : tie.InvT-loop
 Inv-loop code out₀ n i₀ out i = (i ≤ n) × (length out ≡ length out₀) × (out ≡ sets out₀ 0 (bytesIn (decodeAt (bitIn code) 0 (4 * i))))
@@ -33,14 +33,11 @@ mul-decode-at c = search needs
 decode-at-requires : tie.Need-decode-at-requires Inv-loop μ-loop
 decode-at-requires c κs = search needs
 
-mul-store : tie.Need-mul-store Inv-loop μ-loop
-mul-store c = search needs
+mul-put-four : tie.Need-mul-put-four Inv-loop μ-loop
+mul-put-four c = search needs
 
-slice-aggregate-store : tie.Need-slice-aggregate-store Inv-loop μ-loop
-slice-aggregate-store c = search needs
-
-store-requires : tie.Need-store-requires Inv-loop μ-loop
-store-requires c κs = let e = slice-aggregate-store c in omega arith
+put-four-requires : tie.Need-put-four-requires Inv-loop μ-loop
+put-four-requires c κs = search needs
 
 add-i : tie.Need-add-i Inv-loop μ-loop
 add-i c = search needs
@@ -50,10 +47,10 @@ loop-less c = search needs
 
 loop-again : tie.Need-loop-again Inv-loop μ-loop
 loop-again c =
-    let l = c .before .before .before .before .before .before .before .before in
+    let l = c .before .before .before .before .before .before .before in
     let a = l .before .before .before .args in
-    let p = c .before .before .store in
-    let d = c .before .before .before .before .before .before .decode-at in (
+    let p = c .before .before .put-four in
+    let d = c .before .before .before .before .before .decode-at in (
       omega arith,
       p .kept .0 ∙ l .loop .inv .1,
       p .ensures ∙ ap (λ (g : Decoded4). sets (l .loop .out) (4 * l .loop .i) (g .bytes)) (d .ensures)
@@ -78,9 +75,8 @@ decode-groups-spec =
     loop-holds
     mul-decode-at
     decode-at-requires
-    mul-store
-    slice-aggregate-store
-    store-requires
+    mul-put-four
+    put-four-requires
     add-i
     loop-less
     loop-again
