@@ -1,11 +1,11 @@
 -- A sector of an image of any kind as the code reads it and makes it zeros: a law for each way out.
-use mathlib.Core.Path.{_≡_, refl, sym, _∙_, subst}
-use mathlib.Core.List.{List, _++_}
+use mathlib.Core.Path.{_≡_, refl, sym, ap, _∙_, subst}
+use mathlib.Core.List.{List, _++_, append-assoc}
 use Prim.Native.Nat.{ℕ, _+_, _-_, _≤_}
 use native.Mathlib.Omega.{arith}
-use lib.ListN.{length, take, drop, replicate, length-take, length-drop, length-replicate}
-use lib.Seq.{sets}
-use Rattle.base.proofs.InRow.{sets-whole}
+use lib.ListN.{length, take, drop, replicate, length-replicate}
+use lib.Seq.{drop-drop, sets, sets-eq}
+use Rattle.base.specs.Lists.{onPart}
 use Rattle.base.proofs.Parts.{home}
 use Rattle.geometry.specs.D64.{d64Place}
 use Rattle.scan.specs.declared.SectorRecord.{SectorRecord}
@@ -67,12 +67,16 @@ module _ (place : Place) (l : List ℕ) (start long : ℕ) (e : place ≡ At sta
         → take start l ++ (ys ++ drop (start + long - start) (drop start l)) ≡ zeroedAt rule place t s l
     zeroed-here ys y = rw e (home start (start + long) long (replacedBy rule t s (replicate 256 0)) l ys refl y)
 
--- a sector of a D64 image: o is its place, ys what the part came back with
+-- zeros stored in a list are a part of it changed
+zeros-stored : (n o : ℕ) (l : List ℕ) → o + n ≤ length l → sets l o (replicate n 0) ≡ onPart o n (λ part. replicate n 0) l
+unfolding onPart
+zeros-stored n o l h =
+    let e : length (replicate {A = ℕ} n 0) ≡ n = length-replicate n 0 in
+    sets-eq (replicate n 0) l o (omega (arith, e)) ∙ append-assoc (take o l) (replicate n 0) (drop (o + length (replicate {A = ℕ} n 0)) l)
+    ∙ ap (λ (r : List ℕ). take o l ++ (replicate n 0 ++ r)) (ap (λ (k : ℕ). drop (o + k) l) e ∙ sym (drop-drop n o l))
+
+-- a sector of a D64 image: o is its place, ys what the image came back as
 pub block-zeroed : (l : List ℕ) (t s o : ℕ) → o ≡ d64Place t s → o + 256 ≤ length l → (ys : List ℕ)
-    → ys ≡ sets (take (o + 256 - o) (drop o l)) 0 (replicate 256 0)
-    → take o l ++ (ys ++ drop (o + 256 - o) (drop o l)) ≡ d64Zeroed t s l
+    → ys ≡ sets l o (replicate 256 0) → ys ≡ d64Zeroed t s l
 unfolding d64Zeroed
-block-zeroed l t s o q h ys y =
-    let n : length (take (o + 256 - o) (drop o l)) ≡ 256 = simp (length-take, length-drop) (omega arith) in
-    let z : ys ≡ replicate 256 0 = y ∙ sets-whole (replicate 256 0) (take (o + 256 - o) (drop o l)) (length-replicate {A = ℕ} 256 0 ∙ sym n) in
-    rw (← q) (home o (o + 256) 256 (λ block. replicate 256 0) l ys refl z)
+block-zeroed l t s o q h ys y = rw (← q) (y ∙ zeros-stored 256 o l h)

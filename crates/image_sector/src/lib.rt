@@ -61,9 +61,7 @@ fn zero_block(image: &mut [u8], track: u8, sector: u8)
     requires { ⌜ d64Place track sector + 256 ≤ length (now image) ⌝ }
     ensures { λ r. ⌜ now (image .exit) ≡ d64Zeroed track sector (now (image .entry)) ⌝ }
 {
-    let at = geometry::d64_place(track, sector);
-    let end = at + 256;
-    base::fill(&mut image[at..end], 0, 256, 0);
+    base::fill(image, geometry::d64_place(track, sector), 256, 0);
 }
 
 // Makes a sector of the ring at a place zeros, by a rule.

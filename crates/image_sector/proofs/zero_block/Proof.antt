@@ -7,18 +7,6 @@ use Rattle.image_sector.proofs.zero_block.Tie as tie
 d64-place-requires : tie.Need-d64-place-requires
 d64-place-requires c κs = search needs
 
-add-end : tie.Need-add-end
-add-end c = search needs
-
-sub-fill : tie.Need-sub-fill
-sub-fill c = search needs
-
-part-fill-start : tie.Need-part-fill-start
-part-fill-start c = search needs
-
-part-fill-end : tie.Need-part-fill-end
-part-fill-end c = search needs
-
 fill-requires : tie.Need-fill-requires
 fill-requires c κs = search needs
 
@@ -28,20 +16,10 @@ same-length c = search needs
 returns : tie.Need-returns
 returns c =
     let f = c .before .before in
-    let d = f .before .before in
-    let a = d .before .before .args in
+    let d = f .before in
+    let a = d .before .before .before .args in
     block-zeroed (a .image .now) (a .track) (a .sector) (d .d64-place .result) (d .d64-place .ensures) (omega arith)
     (f .fill .last .0) (f .fill .ensures)
 
 pub zero-block-spec : {M : Type 1} → statement M
-zero-block-spec =
-    tie.close
-    (tie.spec
-    d64-place-requires
-    add-end
-    sub-fill
-    part-fill-start
-    part-fill-end
-    fill-requires
-    same-length
-    returns)
+zero-block-spec = tie.close (tie.spec d64-place-requires fill-requires same-length returns)
