@@ -45,23 +45,23 @@ extern "C" {
 #endif
 
 /* The version of the library; the file VERSION has the same. */
-#define FIELBMARU_VERSION "0.9.0"
+#define FIELBMARU_VERSION "0.10.0"
 
 /* The refusal numbers. (tests/refusals holds them to the library's other lists.) */
-#define FIELBMARU_DONE             0
-#define FIELBMARU_RING_EMPTY       1  /* the ring has no byte */
-#define FIELBMARU_RING_TOO_LONG    2  /* the ring has more than 65,535 bytes */
-#define FIELBMARU_WRONG_IMAGE      3  /* D64 size, G64 or NIB length or signature is wrong */
-#define FIELBMARU_WRONG_ENTRIES    4  /* G64 counts or entries, NIB catalogue or total length are wrong; a slot above 83 */
-#define FIELBMARU_NO_DIRECTORY     5  /* track 18 is missing, or 18/0 is not readable */
-#define FIELBMARU_WRONG_LINK       6  /* a directory link is out of range, repeated, or unreadable */
-#define FIELBMARU_NO_ROOM          7  /* a lent output is shorter than needed */
-#define FIELBMARU_NO_RING          8  /* NIB encoding with no ring */
-#define FIELBMARU_TOO_MANY_RECORDS 9  /* more than 195 records: proved not to be possible */
-#define FIELBMARU_WRONG_SUM       10  /* payload bytes not a multiple of 256; ring bytes not the sum of the ring lengths */
-#define FIELBMARU_NO_RECORD       11  /* no valid record of that sector */
-#define FIELBMARU_AMBIGUOUS       12  /* several records (unique rule), or differing ones (consistent rule) */
-#define FIELBMARU_ILLEGAL_SYMBOL  13  /* a five-bit symbol outside the table; no function here returns it */
+#define FIELBMARU_DONE            0
+#define FIELBMARU_RING_EMPTY      1  /* the ring has no byte */
+#define FIELBMARU_RING_TOO_LONG   2  /* the ring has more than 65,535 bytes */
+#define FIELBMARU_WRONG_IMAGE     3  /* D64 size, G64 or NIB length or signature is wrong */
+#define FIELBMARU_WRONG_ENTRIES   4  /* G64 counts or entries, NIB catalogue or total length are wrong; a slot above 83 */
+#define FIELBMARU_NO_DIRECTORY    5  /* track 18 is missing, or 18/0 is not readable */
+#define FIELBMARU_WRONG_LINK      6  /* a directory link is out of range, repeated, or unreadable */
+#define FIELBMARU_NO_ROOM         7  /* a lent output is shorter than needed */
+#define FIELBMARU_NO_RING         8  /* NIB encoding with no ring */
+/* 9 is not used. */
+#define FIELBMARU_WRONG_SUM      10  /* payload bytes not a multiple of 256; ring bytes not the sum of the ring lengths */
+#define FIELBMARU_NO_RECORD      11  /* no valid record of that sector */
+#define FIELBMARU_AMBIGUOUS      12  /* several records (unique rule), or differing ones (consistent rule) */
+#define FIELBMARU_ILLEGAL_SYMBOL 13  /* a five-bit symbol outside the table; no function here returns it */
 
 /* Sizes. */
 #define FIELBMARU_MAX_RING       65535  /* bytes of the longest ring */
@@ -109,7 +109,7 @@ uint64_t fielbmaru_build_track(uint8_t track, const uint8_t *payloads, size_t pa
  * rows_len counts numbers, not bytes. Room for 195 records is needed, whatever is found: FIELBMARU_SCAN_ROWS and
  * FIELBMARU_SCAN_PAYLOADS.
  *
- * Refused: NO_ROOM, RING_EMPTY, RING_TOO_LONG, TOO_MANY_RECORDS.
+ * Refused: NO_ROOM, RING_EMPTY, RING_TOO_LONG.
  */
 uint64_t fielbmaru_scan(const uint8_t *ring, size_t ring_len, uint8_t track, uint64_t start_bit, uint64_t *rows, size_t rows_len,
                         uint8_t *payloads, size_t payloads_len, uint64_t *count);
@@ -125,7 +125,7 @@ struct fielbmaru_record {
  * Lists the same in an array of records. records_len counts records: FIELBMARU_SCAN_RECORDS are needed, whatever is found.
  * Records behind the last one found are kept.
  *
- * Refused: NO_ROOM, RING_EMPTY, RING_TOO_LONG, TOO_MANY_RECORDS.
+ * Refused: NO_ROOM, RING_EMPTY, RING_TOO_LONG.
  */
 uint64_t fielbmaru_scan_records(const uint8_t *ring, size_t ring_len, uint8_t track, uint64_t start_bit,
                                 struct fielbmaru_record *records, size_t records_len, uint64_t *count);
@@ -137,7 +137,7 @@ uint64_t fielbmaru_scan_records(const uint8_t *ring, size_t ring_len, uint8_t tr
  * statuses  a byte for each sector: FIELBMARU_HANDED_OUT or FIELBMARU_MISSING. Needs FIELBMARU_SECTORS(track) bytes.
  * found     how many sectors were handed out. Bytes behind the track's sectors are kept.
  *
- * Refused: NO_ROOM, RING_EMPTY, RING_TOO_LONG, TOO_MANY_RECORDS.
+ * Refused: NO_ROOM, RING_EMPTY, RING_TOO_LONG.
  */
 uint64_t fielbmaru_decode_track(const uint8_t *ring, size_t ring_len, uint8_t track, uint64_t start_bit, uint8_t *payloads,
                                 size_t payloads_len, uint8_t *statuses, size_t statuses_len, uint64_t *found);
@@ -146,7 +146,7 @@ uint64_t fielbmaru_decode_track(const uint8_t *ring, size_t ring_len, uint8_t tr
  * Reads one sector of a ring, scanned from bit 0. The unique rule wants exactly one record of it; the consistent rule wants at
  * least one, and all with the same payload (a NIB window shows parts of a track twice).
  *
- * Refused: RING_EMPTY, RING_TOO_LONG, TOO_MANY_RECORDS, NO_RECORD, AMBIGUOUS. Refused, `out` is as it came.
+ * Refused: RING_EMPTY, RING_TOO_LONG, NO_RECORD, AMBIGUOUS. Refused, `out` is as it came.
  */
 uint64_t fielbmaru_read_unique(const uint8_t *ring, size_t ring_len, uint8_t track, uint8_t sector, uint8_t out[256]);
 uint64_t fielbmaru_read_consistent(const uint8_t *ring, size_t ring_len, uint8_t track, uint8_t sector, uint8_t out[256]);

@@ -46,8 +46,7 @@ pub enum Refusal {
     NoRoom = 7,
     /// NIB encoding with no ring.
     NoRing = 8,
-    /// More than 195 records: proved not to be possible.
-    TooManyRecords = 9,
+    // 9 is not used.
     /// Payload bytes not a multiple of 256; ring bytes not the sum of the ring lengths.
     WrongSum = 10,
     /// No valid record of that sector.
@@ -60,7 +59,7 @@ pub enum Refusal {
     Unknown = 255,
 }
 
-const REFUSALS: [Refusal; 13] = [
+const REFUSALS: [Refusal; 12] = [
     Refusal::RingEmpty,
     Refusal::RingTooLong,
     Refusal::WrongImage,
@@ -69,7 +68,6 @@ const REFUSALS: [Refusal; 13] = [
     Refusal::WrongLink,
     Refusal::NoRoom,
     Refusal::NoRing,
-    Refusal::TooManyRecords,
     Refusal::WrongSum,
     Refusal::NoRecord,
     Refusal::Ambiguous,

@@ -27,7 +27,7 @@ module _ (ring : List ℕ) (track start : ℕ) where
   -- ---- with room, a ring of 1 to 65,535 bytes is read
   module _ (payloads statuses : List ℕ) (h : 5376 ≤ length payloads) (k : 21 ≤ length statuses) (some : 0 < length ring)
       (small : length ring ≤ longestRing) where
-    taken : readRefusal ring track start payloads statuses ≡ 0
+    taken : readRefusal ring track payloads statuses ≡ 0
     taken =
         let n = sectors-of track .1 in
         none-refused ring track start payloads statuses (omega arith) (omega arith) (record { some = some; small = small })

@@ -9,12 +9,12 @@ use Rattle.base.specs.Limits.{longestRing}
 use Rattle.base.proofs.Stores.{put-many}
 use Rattle.ring.specs.Bit.{bits, bitAt}
 use Rattle.scan.specs.declared.SectorRecord.{SectorRecord}
-use Rattle.scan.specs.declared.Scanned.the-variants.{Records}
 use Rattle.scan.specs.Scan.{recordsFrom, records, mostRecords}
 use Rattle.scan.specs.Answers.{flat, payloadsOf}
 use Rattle.scan.specs.Inside.{Listed}
 use Rattle.scan.proofs.ScanLaws.{Every}
-use Rattle.scan.proofs.NextLaws.{NextIs, few-left}
+use Rattle.scan.proofs.NextLaws.{NextIs}
+use Rattle.scan.proofs.Few.{few-left}
 use Rattle.scan.proofs.Passing.{endOf, Sized, Passing, sets-out, passes, before-most, all-passed}
 
 -- ---- rows and payloads of a list of records
@@ -109,10 +109,10 @@ module _ {ring : List ℕ} {track start : ℕ} {rows₀ payloads₀ rows payload
         }
 
   pub list-ends : recordsFrom (bitAt ring) track (endOf ring start) bit ≡ [] → Listed (records ring track start) rows₀ payloads₀ rows
-      payloads (Records n)
+      payloads n
   list-ends e =
-      subst (λ (rs : List SectorRecord). Listed rs rows₀ payloads₀ rows payloads (Records n)) (all-passed (i .passed) e) (record {
-        count = ap Records (i .count);
+      subst (λ (rs : List SectorRecord). Listed rs rows₀ payloads₀ rows payloads n) (all-passed (i .passed) e) (record {
+        count = i .count;
         laid = i .laid ∙ ap (λ (y : ℕ). flat (i .done) ++ drop (2 * y) rows₀) (i .count);
         packed = i .packed ∙ ap (λ (y : ℕ). payloadsOf (i .done) ++ drop (256 * y) payloads₀) (i .count);
       })

@@ -1,7 +1,6 @@
 -- The records of a scan one by one: what the next one, or none, says of those that are left.
 --     over                    past the end of the scan
 --     next-some, next-none    by the answer that `next_record` gives
---     few-left                a caller that counts: at most `mostRecords` in all
 use Prim.Native.Nat.{ℕ, zero, suc, _+_, _-_, _*_, _%_, _≤_, _<_}
 use mathlib.Core.Path.{_≡_, refl, sym, ap, _∙_, subst}
 use mathlib.Core.Bool.{true, false}
@@ -22,7 +21,6 @@ use Rattle.scan.specs.Scan.{nextSync, recordsOf, recordsFrom, records, m
 use Rattle.scan.specs.Answers.{nextOf}
 use Rattle.scan.proofs.StepLaws.{Step, skip, good, stepHeader, stepOf, Good, visit-good}
 use Rattle.scan.proofs.ScanLaws.{found-sync, next-found, visits-end, visits-none, visits-turn, onStep, one-step, skip-on, good-on}
-use Rattle.scan.proofs.ScanLaws.{few-records}
 
 -- what a record that a scan finds at or after scan bit b is like, and the records after it
 pub record NextIs (x : ℕ → ℕ) (track end b : ℕ) (r : SectorRecord) : Type 0 where
@@ -138,15 +136,3 @@ module _ (x : ℕ → ℕ) (track end : ℕ) where
         by : (rs : List SectorRecord) → o ≡ nextOf rs → rs ≡ []
         by [] q = refl
         by (r ∷ rs) q = absurd (let u : true ≡ false = sym (found-in (r ∷ rs) q) ∙ t in let z : _≡_ {A = ℕ} 0 1 = cc in omega arith)
-
--- ---- a caller that counts: those done and those left are at most `mostRecords`
-pub few-left : (ring : List ℕ) (track start b : ℕ) (done : List SectorRecord) → length ring ≤ longestRing
-    → done ++ recordsFrom (bitAt ring) track (start % bits ring + bits ring) b ≡ records ring track start
-    → length done + length (recordsFrom (bitAt ring) track (start % bits ring + bits ring) b) ≤ mostRecords
-few-left ring track start b done h e =
-    omega (
-      arith,
-      sym (length-append done (recordsFrom (bitAt ring) track (start % bits ring + bits ring) b)) ∙ ap length e,
-      few-records
-          ring track start h,
-    )

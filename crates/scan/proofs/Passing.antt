@@ -9,7 +9,8 @@ use Rattle.ring.specs.Bit.{bits, bitAt}
 use Rattle.scan.specs.declared.SectorRecord.{SectorRecord}
 use Rattle.scan.specs.Scan.{recordsFrom, records, mostRecords}
 use Rattle.scan.proofs.ScanLaws.{Every}
-use Rattle.scan.proofs.NextLaws.{NextIs, few-left}
+use Rattle.scan.proofs.NextLaws.{NextIs}
+use Rattle.scan.proofs.Few.{few-left}
 
 -- the end of a scan of one revolution
 abbrev pub endOf : List ℕ → ℕ → ℕ

@@ -3,21 +3,19 @@ use Prim.Native.Nat.{ℕ, _*_, _≤_, _<_}
 use mathlib.Core.Path.{_≡_, sym, ap, ap₂}
 use mathlib.Core.Logic.{_≢_, _⊎_, inl, inr}
 use mathlib.Core.Bool.{Bool, true, false, _&&_}
-use mathlib.Core.List.{List, [], _∷_}
-use lib.Dec.{ltb, leb}
+use mathlib.Core.List.{List}
+use lib.Dec.{leb}
 use lib.ListN.{length}
-use Rattle.base.specs.Limits.{longestRing}
-use Rattle.base.specs.Refusals.{noRoom, tooManyRecords, _when_}
-use Rattle.base.proofs.Tests.{ltb-no, leb-yes, leb-no}
+use Rattle.base.specs.Refusals.{noRoom}
+use Rattle.base.proofs.Tests.{leb-yes, leb-no}
 use Rattle.base.proofs.Refusing.{unless-some}
 use Rattle.ring.specs.Bit.{IsRing, ringRefusal}
-use Rattle.ring.proofs.RingRefusals.{no-refusal, ring-refused}
+use Rattle.ring.proofs.RingRefusals.{no-refusal}
 use Rattle.scan.specs.Scan.{records, mostRecords}
 use Rattle.scan.specs.Answers.{scanRefusal, roomToScan, scanned, rowsAfter, payloadsAfter}
 use Rattle.scan.specs.Inside.{Listed}
 use Rattle.scan.specs.declared.Scanned.{Scanned}
-use Rattle.scan.specs.declared.Scanned.the-variants.{Refused}
-use Rattle.scan.proofs.ScanLaws.{few-records}
+use Rattle.scan.specs.declared.Scanned.the-variants.{Records, Refused}
 
 -- the room that two lent lists give
 pub room : (a m b n : ℕ) → a ≤ m → b ≤ n → leb a m && leb b n ≡ true
@@ -27,18 +25,13 @@ pub short : (a m b n : ℕ) → (m < a) ⊎ ((a ≤ m) × (n < b)) → leb a m &
 short a m b n (inl h) = ap (λ (s : Bool). s && leb b n) (leb-no a m h)
 short a m b n (inr (h, k)) = ap₂ (λ (s t : Bool). s && t) (leb-yes a m h) (leb-no b n k)
 
--- ---- the ring: refused by its own number, or taken, since its records are not too many
-pub few-enough : (ring : List ℕ) (track start : ℕ) → length ring ≤ longestRing
-    → ltb mostRecords (length (records ring track start)) ≡ false
-few-enough ring track start h = ltb-no mostRecords (length (records ring track start)) (few-records ring track start h)
+-- ---- with room, the refusals of a scan are those of the ring
+module _ (enough : Bool) (e : enough ≡ true) (ring : List ℕ) where
+  pub no-ring : (number : ℕ) → number ≡ ringRefusal (length ring) → number ≡ scanRefusal enough (length ring)
+  no-ring number n = rw e n
 
-module _ (enough : Bool) (e : enough ≡ true) (ring : List ℕ) (track start : ℕ) where
-  pub no-ring : (number : ℕ) → number ≡ ringRefusal (length ring) → number ≢ 0 → number ≡ scanRefusal enough ring track start
-  no-ring number n z =
-      rw e (sym (ring-refused (length ring) number (tooManyRecords when ltb mostRecords (length (records ring track start)) ∷ []) n z))
-
-  pub is-taken : IsRing ring → scanRefusal enough ring track start ≡ 0
-  is-taken r = rw (e, few-enough ring track start (r .small)) (no-refusal ring r)
+  pub is-taken : IsRing ring → scanRefusal enough (length ring) ≡ 0
+  is-taken r = rw e (no-refusal ring r)
 
 -- ---- `scan_sector_records`
 module _ (ring : List ℕ) (track start : ℕ) (rows payloads : List ℕ) where
@@ -59,12 +52,12 @@ module _ (ring : List ℕ) (track start : ℕ) (rows payloads : List ℕ) where
     pub scan-refused : (number : ℕ) → number ≡ ringRefusal (length ring) → number ≢ 0 → ScanOut (Refused number) rows payloads
     unfolding scanned rowsAfter payloadsAfter
     scan-refused number n z =
-        let e = no-ring (roomToScan rows payloads) roomy ring track start number n z in
+        let e = no-ring (roomToScan rows payloads) roomy ring number n in
         (sym (unless-some _ number _ _ e z), sym (unless-some _ number _ _ e z), sym (unless-some _ number _ _ e z))
 
-    pub scan-goes : IsRing ring → (r : Scanned) (rs ps : List ℕ) → Listed (records ring track start) rows payloads rs ps r
-        → ScanOut r rs ps
+    pub scan-goes : IsRing ring → (n : ℕ) (rs ps : List ℕ) → Listed (records ring track start) rows payloads rs ps n
+        → ScanOut (Records n) rs ps
     unfolding scanned rowsAfter payloadsAfter
-    scan-goes l r rs ps o =
-        let e = is-taken (roomToScan rows payloads) roomy ring track start l in
-        (rw e (o .count), rw e (o .laid), rw e (o .packed))
+    scan-goes l n rs ps o =
+        let e = is-taken (roomToScan rows payloads) roomy ring l in
+        (rw e (ap Records (o .count)), rw e (o .laid), rw e (o .packed))

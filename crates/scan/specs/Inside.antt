@@ -6,8 +6,6 @@ use mathlib.Core.List.{List, _++_}
 use lib.ListN.{length, drop}
 use Rattle.scan.specs.declared.SectorRecord.{SectorRecord}
 use Rattle.scan.specs.declared.NextRecord.{NextRecord}
-use Rattle.scan.specs.declared.Scanned.{Scanned}
-use Rattle.scan.specs.declared.Scanned.the-variants.{Records}
 use Rattle.scan.specs.Answers.{flat, payloadsOf}
 
 -- the answer of `next_record` where it finds one
@@ -15,7 +13,7 @@ abbrev pub aNext : SectorRecord → NextRecord
 aNext r = record { found = true; row = r }
 
 -- a list of records laid out: their rows and payloads in front, spare room kept
-pub record Listed (rs : List SectorRecord) (rows payloads rowsAfter payloadsAfter : List ℕ) (r : Scanned) : Type 0 where
-  pub count : r ≡ Records (length rs)
+pub record Listed (rs : List SectorRecord) (rows payloads rowsAfter payloadsAfter : List ℕ) (r : ℕ) : Type 0 where
+  pub count : r ≡ length rs
   pub laid : rowsAfter ≡ flat rs ++ drop (2 * length rs) rows
   pub packed : payloadsAfter ≡ payloadsOf rs ++ drop (256 * length rs) payloads

@@ -16,7 +16,7 @@ use Rattle.scan.specs.Scan.{recordsFrom, records, mostRecords}
 use Rattle.scan.specs.Answers.{nextOf}
 use Rattle.scan.proofs.NextLaws.{NextIs, next-some, next-none}
 use Rattle.scan.proofs.Passing.{endOf, Passing, sets-out, passes, before-most, all-passed}
-use Rattle.scan.proofs.NextLaws.{few-left}
+use Rattle.scan.proofs.Few.{few-left}
 use Rattle.scan_rows.specs.Rows.{stored, laid}
 
 -- a test, as one of two equations

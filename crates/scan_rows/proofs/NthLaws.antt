@@ -17,9 +17,9 @@ use Rattle.scan.specs.Scan.{zeroRecord, records, mostRecords}
 use Rattle.scan.specs.Answers.{scanRefusal}
 use Rattle.scan_rows.specs.declared.Row.{Row}
 use Rattle.scan_rows.specs.Rows.{laid, refusedRow, noRow, rowAt}
-use Rattle.scan_rows.specs.Answers.{scannedInto, rowsAfter, nthRecord}
-use Rattle.scan_rows.specs.Inside.{refusalOf, ofScan}
-use Rattle.scan_rows.proofs.Refusing.{the-number, answer-by, rows-by}
+use Rattle.scan_rows.specs.Answers.{rowsRefusal, scannedInto, rowsAfter, nthRecord}
+use Rattle.scan_rows.specs.Inside.{ofScan}
+use Rattle.scan_rows.proofs.Refusing.{answer-by, rows-by}
 
 -- ---- `of_scan`
 pub of-scan-in : (row : Row) (n : ℕ) (answer : Scanned) (count : ℕ) → answer ≡ Records count → n < count → row ≡ ofScan row n answer
@@ -52,14 +52,13 @@ row-laid rs ys n = by (ltb n (length rs)) refl
 -- ---- a scan into as many rows as there can be records
 module _ (ring : List ℕ) (track start : ℕ) (ys : List SectorRecord) (e : length ys ≡ mostRecords) where
   abbrev number : ℕ
-  number = refusalOf (length ys) (length ring)
+  number = rowsRefusal ring ys
 
   by-number : (n : ℕ) → nthRecord ring track start n ≡ pick (eqb number 0) (rowAt (records ring track start) n) (refusedRow number)
   unfolding nthRecord
   by-number n =
       let roomy = sym (leb-yes mostRecords (length ys) (omega (arith, e))) in
-      ap (λ (k : ℕ). unless k refusedRow (rowAt (records ring track start) n))
-      (ap (λ (t : Bool). scanRefusal t ring track start) roomy ∙ the-number ring track start ys)
+      ap (λ (k : ℕ). unless k refusedRow (rowAt (records ring track start) n)) (ap (λ (t : Bool). scanRefusal t (length ring)) roomy)
       ∙ unless-by number refusedRow (rowAt (records ring track start) n)
 
   -- row n of the rows that it leaves, by its answer

@@ -1,10 +1,10 @@
 -- What a scan into rows answers and leaves. It needs room for the most records, whatever it finds.
 use Prim.Native.Nat.{ℕ}
-use mathlib.Core.Bool.{true}
 use mathlib.Core.List.{List}
 use lib.Dec.{leb}
 use lib.ListN.{length}
 use Rattle.base.specs.Refusals.{unless}
+use Rattle.ring.specs.Bit.{ringRefusal}
 use Rattle.scan.specs.declared.SectorRecord.{SectorRecord}
 use Rattle.scan.specs.declared.Scanned.{Scanned}
 use Rattle.scan.specs.declared.Scanned.the-variants.{Records, Refused}
@@ -14,18 +14,18 @@ use Rattle.scan_rows.specs.declared.Row.{Row}
 use Rattle.scan_rows.specs.Rows.{laid, refusedRow, rowAt}
 
 -- the refusals of a scan into rows: those of a scan
-abbrev pub rowsRefusal : List ℕ → ℕ → ℕ → List SectorRecord → ℕ
-rowsRefusal ring track start rows = scanRefusal (leb mostRecords (length rows)) ring track start
+abbrev pub rowsRefusal : List ℕ → List SectorRecord → ℕ
+rowsRefusal ring rows = scanRefusal (leb mostRecords (length rows)) (length ring)
 
 -- the number of records, or a refusal number
 unfoldable pub scannedInto : List ℕ → ℕ → ℕ → List SectorRecord → Scanned
 scannedInto ring track start rows =
-    unless (rowsRefusal ring track start rows) Refused (Records (length (records ring track start)))
+    unless (rowsRefusal ring rows) Refused (Records (length (records ring track start)))
 
 -- the rows afterwards: all as lent where the scan is refused
 unfoldable pub rowsAfter : List ℕ → ℕ → ℕ → List SectorRecord → List SectorRecord
-rowsAfter ring track start rows = unless (rowsRefusal ring track start rows) (λ n. rows) (laid (records ring track start) rows)
+rowsAfter ring track start rows = unless (rowsRefusal ring rows) (λ n. rows) (laid (records ring track start) rows)
 
 -- record n of a scan, by a function that lends the rows itself
 unfoldable pub nthRecord : List ℕ → ℕ → ℕ → ℕ → Row
-nthRecord ring track start n = unless (scanRefusal true ring track start) refusedRow (rowAt (records ring track start) n)
+nthRecord ring track start n = unless (ringRefusal (length ring)) refusedRow (rowAt (records ring track start) n)

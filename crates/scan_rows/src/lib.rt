@@ -1,12 +1,14 @@
 // Sector records as a lent list of structs: row n stored and read by thin functions, and a scan that fills the rows.
 ghost use mathlib.Core.Path.{_≡_};
 ghost use Prim.Native.Nat.{_≤_};
+ghost use lib.Dec.{leb};
 ghost use lib.ListN.{length};
 ghost use Rattle.ring.specs.Bit.{IsRing};
 ghost use Rattle.scan.specs.Scan.{records, mostRecords};
+ghost use Rattle.scan.specs.Answers.{scanRefusal};
 ghost use Rattle.scan_rows.specs.Rows.{hasRow, stored, laid, aRow, noRow, refusedRow, rowAt};
 ghost use Rattle.scan_rows.specs.Answers.{scannedInto, rowsAfter, nthRecord};
-ghost use Rattle.scan_rows.specs.Inside.{refusalOf, ofScan};
+ghost use Rattle.scan_rows.specs.Inside.{ofScan};
 use scan::Scanned;
 use scan::SectorRecord;
 
@@ -23,7 +25,7 @@ pub fn store_row(rows: &mut [SectorRecord], n: usize, row: SectorRecord) -> bool
 
 // The refusal of a scan of a ring of so many bytes into so many rows, in the order of refusals; 0 where there is none.
 fn refusal(rows: usize, bytes: usize) -> u8
-    ensures { λ r. ⌜ r ≡ refusalOf rows bytes ⌝ }
+    ensures { λ r. ⌜ r ≡ scanRefusal (leb mostRecords rows) bytes ⌝ }
 {
     if rows < scan::MOST_RECORDS {
         return base::NO_ROOM;

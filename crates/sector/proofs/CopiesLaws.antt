@@ -17,7 +17,7 @@ use Rattle.base.proofs.Lists.{put-one}
 use Rattle.ring.specs.Bit.{bits, bitAt}
 use Rattle.scan.specs.declared.SectorRecord.{SectorRecord}
 use Rattle.scan.specs.Scan.{recordsFrom, mostRecords}
-use Rattle.scan.proofs.ScanLaws.{few-records}
+use Rattle.scan.proofs.Few.{few-records}
 use Rattle.scan.proofs.NextLaws.{NextIs}
 use Rattle.sector.specs.declared.Copies.{Copies}
 use Rattle.sector.specs.Rules.{recordsIn, recordsFor, allLike}

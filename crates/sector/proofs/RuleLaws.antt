@@ -17,7 +17,8 @@ use Rattle.base.specs.Refusals.{ambiguous, _when_, refusal, unless}
 use Rattle.ring.specs.Bit.{IsRing, bits, bitAt}
 use Rattle.scan.specs.declared.SectorRecord.{SectorRecord}
 use Rattle.scan.specs.Scan.{mostRecords}
-use Rattle.scan.proofs.ScanLaws.{Every, few-records}
+use Rattle.scan.proofs.ScanLaws.{Every}
+use Rattle.scan.proofs.Few.{few-records}
 use Rattle.scan.proofs.EachRecord.{each-next}
 use Rattle.base.specs.declared.Sector.{Sector}
 use Rattle.sector.specs.declared.Replaced.{Replaced}

@@ -100,7 +100,7 @@ module _ (d : Dropout) (ring out statuses : List ℕ) where
         forced-is p q e f =
             f ∙ ap (λ (y : List ℕ). forcedAfter y (d .place) (d .long)) e
             ∙ sym (done whole (d .place) (d .long) 0
-            (sym (no-refusal whole (ring-kept (long ∙ sym (damaged-length d ok)) (never-refused d ok .ring)))) (damaged d) refl refl .1)
+            (sym (no-refusal whole (ring-kept (long ∙ sym (damaged-length d ok)) (never-refused d ok)))) (damaged d) refl refl .1)
 
         read-is : (Found (countOf 1 (readStatuses (damaged d) (d .track) (d .start)))
             ≡ trackRead (damaged d) (d .track) (d .start) out statuses)
@@ -109,7 +109,7 @@ module _ (d : Dropout) (ring out statuses : List ℕ) where
             × (readStatuses (damaged d) (d .track) (d .start) ++ drop (sectorsOf (d .track)) statuses
             ≡ trackStatuses (damaged d) (d .track) (d .start) out statuses)
         read-is =
-            read-goes (damaged d) (d .track) (d .start) out statuses ho hs (never-refused d ok .ring) _ _ _
+            read-goes (damaged d) (d .track) (d .start) out statuses ho hs (never-refused d ok) _ _ _
             (record { count = refl; laid = refl; told = refl })
 
         pub three-calls : (k : ℕ) (part p q ps ss : List ℕ) (r : TrackRead) → k ≡ capacityOf (d .track) → length part ≡ k

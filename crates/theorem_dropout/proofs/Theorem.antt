@@ -35,7 +35,7 @@ use Rattle.track_build.proofs.Stored.{length-built}
 use Rattle.scan.specs.Scan.{recordsOf, visitsOf}
 use Rattle.scan.specs.declared.SectorRecord.{SectorRecord}
 use Rattle.track_read.specs.Reading.{Given, NotGiven, firstOf, readSector}
-use Rattle.scan.proofs.ScanLaws.{scan, Every, Any, every-map, few-records}
+use Rattle.scan.proofs.ScanLaws.{scan, Every, Any, every-map}
 use Rattle.track_read.proofs.ReadingLaws.{GivenBy, first-cases, first-found}
 use Rattle.theorem_dropout.specs.Demand3.{Dropout, OfBytes, damaged, own, isSpoilt, Statement, NeverRefused}
 use Rattle.theorem_dropout.proofs.Cut.{dropped, outside, around}
@@ -287,7 +287,4 @@ pub damaged-length : (d : Dropout) → OfBytes d → length (damaged d) ≡ capa
 damaged-length d ok = ring-long d ok
 
 pub never-refused : NeverRefused
-never-refused d ok = record {
-  ring = record { some = omega (arith, ring-long d ok, as-wide d ok); small = ring-small d ok };
-  few = few-records (damaged d) (d .track) (d .start) (ring-small d ok);
-}
+never-refused d ok = record { some = omega (arith, ring-long d ok, as-wide d ok); small = ring-small d ok }

@@ -6,13 +6,12 @@ use mathlib.Core.Logic.{_⊎_}
 use mathlib.Core.Bool.{Bool, true, false}
 use mathlib.Core.List.{List}
 use lib.Dec.{T}
-use lib.ListN.{length, getD}
+use lib.ListN.{getD}
 use Rattle.geometry.specs.Zones.{zoneOf, sectorsOf, capacityOf, slotStart}
 use Rattle.ring.specs.Bit.{IsRing}
 use Rattle.ring.specs.Stretch.{inStretch, forceToZero}
 use Rattle.track_build.specs.Blocks.{spoils}
 use Rattle.track_build.specs.Slots.{codeOf, payloadOf, builtTrack}
-use Rattle.scan.specs.Scan.{records, mostRecords}
 use Rattle.track_read.specs.Reading.{Handed, Given, NotGiven, readSector}
 
 -- a built track, the stretch that a dropout forces to zero, and the bit where reading starts
@@ -63,10 +62,6 @@ Statement =
     (d : Dropout) → OfBytes d → (j : ℕ) → j < sectorsOf (d .track)
     → Demand3 d j (readSector (damaged d) (d .track) (d .start) j)
 
--- and no reader refuses that ring: it has 1 to 65,535 bytes, and not too many records
-pub record Readable (d : Dropout) : Type 0 where
-  pub ring : IsRing (damaged d)
-  pub few : length (records (damaged d) (d .track) (d .start)) ≤ mostRecords
-
+-- and no reader refuses that ring: it has 1 to 65,535 bytes
 abbrev pub NeverRefused : Type 0
-NeverRefused = (d : Dropout) → OfBytes d → Readable d
+NeverRefused = (d : Dropout) → OfBytes d → IsRing (damaged d)

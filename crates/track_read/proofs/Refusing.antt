@@ -33,12 +33,12 @@ module _ (ring : List ℕ) (track start : ℕ) (payloads statuses : List ℕ) wh
     pub read-refused : (number : ℕ) → number ≡ ringRefusal (length ring) → number ≢ 0 → ReadOut (NotRead number) payloads statuses
     unfolding trackRead trackPayloads trackStatuses
     read-refused number n z =
-        let e = no-ring (roomToRead track payloads statuses) roomy ring track start number n z in
+        let e = no-ring (roomToRead track payloads statuses) roomy ring number n in
         (sym (unless-some _ number _ _ e z), sym (unless-some _ number _ _ e z), sym (unless-some _ number _ _ e z))
 
     -- a ring that is read
-    pub none-refused : IsRing ring → readRefusal ring track start payloads statuses ≡ 0
-    none-refused l = is-taken (roomToRead track payloads statuses) roomy ring track start l
+    pub none-refused : IsRing ring → readRefusal ring track payloads statuses ≡ 0
+    none-refused l = is-taken (roomToRead track payloads statuses) roomy ring l
 
     pub read-goes : IsRing ring → (n : ℕ) (ps ss : List ℕ) → ReadInto ring track start payloads statuses ps ss n → ReadOut (Found n) ps ss
     unfolding trackRead trackPayloads trackStatuses

@@ -35,7 +35,7 @@ module _ (ring payloads part : List ℕ) (track : ℕ) (p : 5376 ≤ length payl
   by-number : (k : ℕ) → ringRefusal (length ring) ≡ k → trackStatuses ring track 0 payloads part ≡ ringStatuses ring track
   unfolding trackStatuses ringStatuses
   by-number zero f =
-      rw (f, none-refused ring track 0 payloads part for-payloads (omega arith) (is-ring ring f), all-read)
+      rw (none-refused ring track 0 payloads part for-payloads (omega arith) (is-ring ring f), f, all-read)
       (append-nil (readStatuses ring track 0))
   by-number (suc k) f =
       sym (read-refused ring track 0 payloads part for-payloads (omega arith) (suc k) (sym f) (λ z. omega arith) .2) ∙ e ∙ rw f

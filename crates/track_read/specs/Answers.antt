@@ -20,22 +20,22 @@ roomToRead track payloads statuses =
     leb (256 * sectorsOf track) (length payloads) && leb (sectorsOf track) (length statuses)
 
 -- the refusals are those of a scan
-abbrev pub readRefusal : List ℕ → ℕ → ℕ → List ℕ → List ℕ → ℕ
-readRefusal ring track start payloads statuses = scanRefusal (roomToRead track payloads statuses) ring track start
+abbrev pub readRefusal : List ℕ → ℕ → List ℕ → List ℕ → ℕ
+readRefusal ring track payloads statuses = scanRefusal (roomToRead track payloads statuses) (length ring)
 
 unfoldable pub trackRead : List ℕ → ℕ → ℕ → List ℕ → List ℕ → TrackRead
 trackRead ring track start payloads statuses =
-    unless (readRefusal ring track start payloads statuses) NotRead
+    unless (readRefusal ring track payloads statuses) NotRead
     (Found (countOf 1 (readStatuses ring track start)))
 
 unfoldable pub trackPayloads : List ℕ → ℕ → ℕ → List ℕ → List ℕ → List ℕ
 trackPayloads ring track start payloads statuses =
-    unless (readRefusal ring track start payloads statuses) (λ n. payloads)
+    unless (readRefusal ring track payloads statuses) (λ n. payloads)
     (readPayloads ring track start ++ drop (256 * sectorsOf track) payloads)
 
 unfoldable pub trackStatuses : List ℕ → ℕ → ℕ → List ℕ → List ℕ → List ℕ
 trackStatuses ring track start payloads statuses =
-    unless (readRefusal ring track start payloads statuses) (λ n. statuses)
+    unless (readRefusal ring track payloads statuses) (λ n. statuses)
     (readStatuses ring track start ++ drop (sectorsOf track) statuses)
 
 -- ---- the statuses alone, read from bit 0 on; all 0 where there is no ring to read

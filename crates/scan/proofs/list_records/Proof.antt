@@ -26,7 +26,7 @@ abbrev at-loop : tie.Else1 Inv-loop μ-loop → tie.At-loop Inv-loop μ-loop
 at-loop c = c .before .before .before
 
 abbrev to-row : tie.After-row Inv-loop μ-loop → tie.Else1 Inv-loop μ-loop
-to-row c = c .before .before
+to-row c = c .before
 
 abbrev put : tie.After-slice-known4 Inv-loop μ-loop → tie.Else1 Inv-loop μ-loop
 put c = to-row (c .before .before .before .before .before .before .before)
@@ -99,22 +99,6 @@ returns : tie.Need-returns Inv-loop μ-loop
 returns c = list-ends (c .before .before .before .loop .inv) (next-none _ _ _ _ _ (c .before .before .next-record .ensures .0)
     (not-true _ (c .if1 .taken)))
 
-same-length-3 : tie.Need-same-length-3 Inv-loop μ-loop
-same-length-3 c = let l = at-loop (c .before) in rows-kept (l .loop .inv)
-    (omega (arith, few (l .loop .inv) (start l .pre .0 .small), start l .pre .1))
-
-same-length-4 : tie.Need-same-length-4 Inv-loop μ-loop
-same-length-4 c = let l = at-loop (c .before) in payloads-kept (l .loop .inv)
-    (omega (arith, few (l .loop .inv) (start l .pre .0 .small), start l .pre .1))
-
-returns-2 : tie.Need-returns-2 Inv-loop μ-loop
-returns-2 c = let l = at-loop (c .before) in absurd (omega (
-  arith,
-  one-more (l .loop .inv) (start l .pre .0 .small) _
-      (next-is (c .before)),
-  c .if2 .taken,
-))
-
 pub list-records-spec : {M : Type 1} → statement M
 list-records-spec =
     tie.close
@@ -133,7 +117,4 @@ list-records-spec =
     loop-again
     same-length
     same-length-2
-    returns
-    same-length-3
-    same-length-4
-    returns-2)
+    returns)

@@ -54,8 +54,7 @@ use Rattle.scan.specs.Scan.{records, mostRecords}
 use Rattle.scan.proofs.Scanned as E
 use Rattle.scan.proofs.Scanned.Laws as E′
 use Rattle.scan_rows.specs.Rows.{laid}
-use Rattle.scan_rows.specs.Answers.{scannedInto, rowsAfter}
-use Rattle.scan_rows.specs.Inside.{refusalOf}
+use Rattle.scan_rows.specs.Answers.{rowsRefusal, scannedInto, rowsAfter}
 use Rattle.scan_rows.proofs.Records.{R, picks, passes}
 use Rattle.scan_rows.proofs.Again.{LentAgain, lends-again, comes-back}
 use Rattle.scan_rows.proofs.Refusing.{answer-by, rows-by, taken}
@@ -156,7 +155,7 @@ module _ {M : Type 1} (𝓤 : URA M) (H : Heap 𝓤) (A : Atoms 𝓤) (W : Given
 
   -- ---- the call of `refusal`
   abbrev number : ℕ
-  number = refusalOf (length ys) (length ring)
+  number = rowsRefusal ring ys
 
   abbrev Lengths : Type 0
   Lengths = ℕ × (ℕ × Unit {0})
