@@ -148,8 +148,9 @@ fn images_cleared() {
 fn refusals_have_their_numbers() {
     assert_eq!(Refusal::RingEmpty as u64, 1);
     assert_eq!(Refusal::IllegalSymbol.to_string(), "refused 13 (IllegalSymbol)");
-    for number in 1..=13 {
+    for number in (1..=8).chain(10..=13) {
         assert_eq!(Refusal::of(number) as u64, number);
     }
-    assert_eq!([Refusal::of(0), Refusal::of(14), Refusal::of(u64::MAX)], [Refusal::Unknown; 3]);
+    // 9 is not used
+    assert_eq!([0, 9, 14, u64::MAX].map(Refusal::of), [Refusal::Unknown; 4]);
 }
