@@ -134,6 +134,10 @@ fn longest(c: &mut Cases) {
         c.scan(ring, track, 0);
         c.scan(ring, track, 524_280 - 2_700);
         c.scan_and_read(ring, track);
+        // 194 sectors and 480 zeros: from bit 0 alone the first header is met again at the join
+        c.store(Buffer::Target, 65_475, 60, 0);
+        c.scan(ring, track, 0);
+        c.scan(ring, track, 1);
     }
     for byte in [0x00, 0xFF, 0x55] {
         c.store(Buffer::Target, 0, 65_535, byte);
