@@ -45,7 +45,7 @@ extern "C" {
 #endif
 
 /* The version of the library; the file VERSION has the same. */
-#define FIELBMARU_VERSION "0.10.0"
+#define FIELBMARU_VERSION "0.11.0"
 
 /* The refusal numbers. (tests/refusals holds them to the library's other lists.) */
 #define FIELBMARU_DONE            0

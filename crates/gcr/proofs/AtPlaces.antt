@@ -1,5 +1,5 @@
--- A group where it stands among bits: decoding its five bytes is decoding the symbols that stand there.
-use mathlib.Core.Path.{_≡_, refl, sym, ap, _∙_, subst}
+-- A group where it stands among bits: decoding its forty bits, or its five bytes, is decoding the symbols that stand there.
+use mathlib.Core.Path.{_≡_, sym, ap, _∙_, subst}
 use mathlib.Core.List.{List}
 use Prim.Native.Nat.{ℕ, _+_, _*_, _≤_, _<_}
 use native.Mathlib.Omega.{arith}
@@ -24,17 +24,22 @@ module _ (x : ℕ → ℕ) where
   abbrev five : ℕ → ℕ → ℕ
   five p k = gather x (p + 5 * k) 5
 
-  symbols-at : Bits x → (p : ℕ) → digits 32 8 (number 256 0 (bytesAt x p 5)) ≡ tab 8 (λ k. symbolAt x (p + 5 * k))
+  -- the forty bits of a group are its eight symbols
+  symbols-at : Bits x → (p : ℕ) → digits 32 8 (gather x p 40) ≡ tab 8 (λ k. symbolAt x (p + 5 * k))
   symbols-at b p =
-      let v : number 256 0 (bytesAt x p 5) ≡ number 32 0 (tab 8 (five p)) = chunks x p 8 5 ∙ sym (chunks x p 5 8) in
-      ap (digits 32 8) v
+      ap (digits 32 8) (sym (chunks x p 5 8))
       ∙ subst (λ (n : ℕ). digits 32 n (number 32 0 (tab 8 (five p))) ≡ tab 8 (five p)) (length-tab 8 (five p))
       (digits-number 32 (lit< tt) 0 (tab 8 (five p)) (below-tab 32 8 (five p) (λ k. gather-lt x b (p + 5 * k) 5)))
       ∙ tab-same 8 (five p) (λ k. symbolAt x (p + 5 * k)) (λ k l. gather-symbol (p + 5 * k))
 
+  -- a group by its forty bits, and by its five bytes
+  pub forty-at : Bits x → (p : ℕ) → fromSymbols (digits 32 8 (gather x p 40)) ≡ decodeAt x p 4
+  unfolding decodeAt
+  forty-at b p = ap fromSymbols (symbols-at b p)
+
   pub group-at : Bits x → (p : ℕ) → decodeGroup (bytesAt x p 5) ≡ decodeAt x p 4
-  unfolding decodeGroup decodeAt
-  group-at b p = ap fromSymbols (symbols-at b p)
+  unfolding decodeGroup
+  group-at b p = ap (λ (v : ℕ). fromSymbols (digits 32 8 v)) (chunks x p 8 5) ∙ forty-at b p
 
 -- group i of a list of bytes
 pub group-in : (code : List ℕ) (i : ℕ) → 5 * i + 5 ≤ length code → ((k : ℕ) → getD code k 0 < 256)

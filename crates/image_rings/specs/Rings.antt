@@ -45,6 +45,10 @@ tableOf entry =
 unfoldable pub noTable : ℕ → Table
 noTable n = record { ok = false; number = n; starts = replicate 84 0; lengths = replicate 84 0 }
 
+-- a table that is given by its two lists
+abbrev pub rings : List ℕ → List ℕ → Table
+rings starts lengths = record { ok = true; number = 0; starts = starts; lengths = lengths }
+
 -- the ring of a half-track, and of a track: where it starts and how long it is, or absent
 abbrev pub halfTrack : Table → ℕ → Place
 halfTrack table half =

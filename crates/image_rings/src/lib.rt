@@ -1,7 +1,7 @@
 // The rings of an image, one for each of 84 half-tracks: where each lies.
 ghost use mathlib.Core.Path.{_≡_};
 ghost use Prim.Native.Nat.{_<_, _≤_};
-ghost use Rattle.image_rings.specs.Rings.{startOf, lengthOf, noTable, ringPlace};
+ghost use Rattle.image_rings.specs.Rings.{startOf, lengthOf, noTable, rings, ringPlace};
 
 // Where a ring lies in an image: at a byte, so many bytes long; nowhere; or its entry is wrong.
 pub enum Place {
@@ -52,16 +52,17 @@ pub fn length_of(place: Place) -> usize
     }
 }
 
-// Where the ring of a track lies: half-track 2(track - 1), absent where its length is 0.
-pub fn ring_place(table: Table, track: u8) -> Place
+// Where the ring of a track lies: half-track 2(track - 1), absent where its length is 0. A table's two lists are lent: a copy
+// at each call is what takes the stack.
+pub fn ring_place(starts: &[usize; 84], lengths: &[usize; 84], track: u8) -> Place
     requires { ⌜ (0 < track) × (track ≤ 42) ⌝ }
-    ensures { λ r. ⌜ r ≡ ringPlace table track ⌝ }
+    ensures { λ r. ⌜ r ≡ ringPlace (rings (now (starts .entry)) (now (lengths .entry))) track ⌝ }
 {
     let half = 2 * (track as usize - 1);
-    let long = table.lengths[half];
+    let long = lengths[half];
     if long == 0 {
         return Place::Absent;
     }
-    let start = table.starts[half];
+    let start = starts[half];
     Place::At(start, long)
 }

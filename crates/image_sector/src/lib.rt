@@ -4,14 +4,13 @@ ghost use Prim.Native.Nat.{_+_, _<_, _≤_};
 ghost use lib.ListN.{length};
 ghost use Rattle.geometry.specs.D64.{d64Place, lastTrack};
 ghost use Rattle.sector.specs.Rules.{ruleOf};
-ghost use Rattle.image_rings.specs.Rings.{startOf, lengthOf};
+ghost use Rattle.image_rings.specs.Rings.{startOf, lengthOf, rings};
 ghost use Rattle.image_d64.specs.D64.{d64Zeroed, OnTracks};
 ghost use Rattle.image_sector.specs.Media.{readAt, zeroedAt, mediumOf, mediumAt};
 ghost use Rattle.image_sector.specs.Contracts.{Complete, InPlace};
 use base::Sector;
 use image_kind::Kind;
 use image_rings::Place;
-use image_rings::Table;
 use sector::Rule;
 
 // A sector of the ring at a place, by a rule.
@@ -43,15 +42,23 @@ pub fn read_here(image: &[u8], kind: Kind, place: Place, track: u8, sector: u8) 
 }
 
 // The same by the table of its rings.
-pub fn read_sector(image: &[u8], kind: Kind, table: Table, track: u8, sector: u8) -> Sector
+pub fn read_sector(
+    image: &[u8],
+    kind: Kind,
+    starts: &[usize; 84],
+    lengths: &[usize; 84],
+    track: u8,
+    sector: u8,
+) -> Sector
     requires { ⌜ (0 < track) × (track ≤ 42) ⌝ }
-    requires { ⌜ Complete kind table (length (now image)) ⌝ }
-    ensures { λ r. ⌜ r ≡ mediumOf kind table .read (now (image .entry)) track sector ⌝ }
+    requires { ⌜ Complete kind (rings (now starts) (now lengths)) (length (now image)) ⌝ }
+    ensures { λ r. ⌜ r
+        ≡ mediumOf kind (rings (now (starts .entry)) (now (lengths .entry))) .read (now (image .entry)) track sector ⌝ }
 {
     read_here(
         image,
         kind,
-        image_rings::ring_place(table, track),
+        image_rings::ring_place(starts, lengths, track),
         track,
         sector,
     )

@@ -4,7 +4,7 @@ use mathlib.Core.Bool.{true, false}
 use mathlib.Core.List.{List}
 use Prim.Native.Nat.{ℕ}
 use native.Mathlib.Omega.{arith}
-use lib.ListN.{length}
+use lib.ListN.{length, replicate}
 use Rattle.base.specs.Refusals.{wrongImage}
 use Rattle.geometry.specs.declared.TrackCount.the-variants.{Tracks, NoD64}
 use Rattle.geometry.specs.D64.{tracksOf}
@@ -12,7 +12,7 @@ use Rattle.geometry.proofs.D64Laws.{d64-facts, sum-mono}
 use Rattle.scan.specs.declared.SectorRecord.{SectorRecord}
 use Rattle.base.specs.declared.Sector.{Sector}
 use Rattle.image_rings.specs.declared.Table.{Table}
-use Rattle.image_rings.specs.Rings.{noTable}
+use Rattle.image_rings.specs.Rings.{noTable, rings, ringPlace}
 use Rattle.image_rings.proofs.TableLaws.{AllInside, none-inside}
 use Rattle.image_kind.specs.declared.Kind.{Kind}
 use Rattle.image_kind.specs.declared.Kind.the-variants.{D64}
@@ -33,11 +33,11 @@ module _ (l : List ℕ) where
     unfolding clearedD64 byTracks
     as-d64 = rw e
 
-    pub d64-complete : (table : Table) → table ≡ noTable 0 → Complete (D64 n) table (length l)
-    d64-complete table q =
+    pub d64-complete : Complete (D64 n) (rings (replicate 84 0) (replicate 84 0)) (length l)
+    unfolding noTable
+    d64-complete =
         let f = d64-facts (length l) n e in
-        let a = subst (AllInside (length l)) (sym q) (none-inside (length l) 0) in
-        record { sectors = λ _ _. omega (arith, sum-mono 35 n (f .0), f .2); rings = a .each }
+        record { sectors = λ _ _. omega (arith, sum-mono 35 n (f .0), f .2); rings = none-inside (length l) 0 .each }
 
 -- an image of rings by its table
 module _ (rule : List SectorRecord → Sector) (l : List ℕ) (table : Table) where
@@ -45,11 +45,13 @@ module _ (rule : List SectorRecord → Sector) (l : List ℕ) (table : Table) wh
   unfolding byTable
   no-rings o = rw o
 
-  pub as-rings : table .ok ≡ true → clearing (ringsMedium rule table) disk1541 l ≡ byTable rule l table
-  unfolding byTable
+  -- its two lists alone tell where the rings are
+  pub as-rings : table .ok ≡ true
+      → clearing (ringsMedium rule (rings (table .starts) (table .lengths))) disk1541 l ≡ byTable rule l table
+  unfolding byTable ringPlace
   as-rings o = rw o
 
 pub rings-complete : (kind : Kind) → ((n : ℕ) → kind ≡ D64 n → ⊥) → (size : ℕ) (table real : Table) → table ≡ real → AllInside size real
-    → Complete kind table size
+    → Complete kind (rings (table .starts) (table .lengths)) size
 rings-complete kind other size table real q all =
     record { sectors = λ n e. absurd (other n e); rings = subst (AllInside size) (sym q) all .each }

@@ -3,6 +3,7 @@ ghost use mathlib.Core.Path.{_≡_};
 ghost use Prim.Native.Nat.{_+_, _*_, _-_, _<_, _≤_};
 ghost use lib.ListN.{length};
 ghost use Rattle.image_d64.specs.D64.{OnTracks};
+ghost use Rattle.image_rings.specs.Rings.{rings};
 ghost use Rattle.image_sector.specs.Media.{mediumOf};
 ghost use Rattle.image_sector.specs.Contracts.{Complete};
 ghost use Rattle.reclaim_directory.specs.Marks.{markPlace};
@@ -10,7 +11,6 @@ ghost use Rattle.reclaim_directory.specs.Disk.{isAddress, entryFree, dis
 ghost use Rattle.reclaim_directory.specs.Chains.{brokenChain, chainAt, chainOf};
 ghost use Rattle.reclaim_directory.specs.Inside.{freeBy};
 use image_kind::Kind;
-use image_rings::Table;
 
 // The BAM has entries for tracks 1 to 35, from byte 4 of 18/0 on.
 const FIRST_ENTRY: usize = 4;
@@ -58,16 +58,19 @@ fn broken_chain() -> Chain
 fn follow(
     image: &[u8],
     kind: Kind,
-    table: Table,
+    starts: &[usize; 84],
+    lengths: &[usize; 84],
     highest: u8,
     first: [bool; 882],
     first_track: u8,
     first_sector: u8,
 ) -> Chain
     requires { ⌜ highest ≤ 42 ⌝ }
-    requires { ⌜ Complete kind table (length (now image)) ⌝ }
+    requires { ⌜ Complete kind (rings (now starts) (now lengths)) (length (now image)) ⌝ }
     ensures { λ r. ⌜ r
-        ≡ chainAt (linksUpTo highest disk1541) (mediumOf kind table .read (now (image .entry))) first 0 «first_track» «first_sector» ⌝ }
+        ≡ chainAt (linksUpTo highest disk1541)
+        (mediumOf kind (rings (now (starts .entry)) (now (lengths .entry))) .read (now (image .entry)))
+        first 0 «first_track» «first_sector» ⌝ }
 {
     let mut marks = first;
     let mut n: usize = 0;
@@ -82,7 +85,7 @@ fn follow(
             return broken_chain();
         }
         marks[at] = true;
-        let found = image_sector::read_sector(image, kind, table, track, sector);
+        let found = image_sector::read_sector(image, kind, starts, lengths, track, sector);
         if !found.ok {
             return broken_chain();
         }
@@ -101,14 +104,17 @@ fn follow(
 pub fn directory_chain(
     image: &[u8],
     kind: Kind,
-    table: Table,
+    starts: &[usize; 84],
+    lengths: &[usize; 84],
     highest: u8,
     bam: &[u8; 256],
 ) -> Chain
     requires { ⌜ highest ≤ 42 ⌝ }
-    requires { ⌜ Complete kind table (length (now image)) ⌝ }
-    requires { ⌜ now bam ≡ bamSector (mediumOf kind table .read (now image)) .bytes ⌝ }
-    ensures { λ r. ⌜ r ≡ chainOf (linksUpTo highest disk1541) (mediumOf kind table .read (now (image .entry))) ⌝ }
+    requires { ⌜ Complete kind (rings (now starts) (now lengths)) (length (now image)) ⌝ }
+    requires { ⌜ now bam ≡ bamSector (mediumOf kind (rings (now starts) (now lengths)) .read (now image)) .bytes ⌝ }
+    ensures { λ r. ⌜ r
+        ≡ chainOf (linksUpTo highest disk1541)
+        (mediumOf kind (rings (now (starts .entry)) (now (lengths .entry))) .read (now (image .entry))) ⌝ }
 {
     let track = bam[0];
     let sector = bam[1];
@@ -118,7 +124,7 @@ pub fn directory_chain(
     let mut marks = [false; 882];
     let at = mark_place(18, 0);
     marks[at] = true;
-    follow(image, kind, table, highest, marks, track, sector)
+    follow(image, kind, starts, lengths, highest, marks, track, sector)
 }
 
 // Is a sector free by the BAM? The entry of track `first` is at `place`; its count byte is passed over.

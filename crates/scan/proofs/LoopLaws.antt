@@ -14,12 +14,11 @@ use Rattle.scan_sync.specs.declared.SyncEnd.the-variants.{At, Nothing}
 use Rattle.scan_visit.specs.declared.HeaderAt.the-variants.{Sector, No}
 use Rattle.scan_visit.specs.declared.DataAt.{DataAt}
 use Rattle.scan_visit.specs.declared.DataAt.the-variants.{Good, Another, Bad}
-use Rattle.scan_visit.specs.declared.DataBlock.{DataBlock}
 use Rattle.scan_sync.specs.Sync.{syncEnd}
 use Rattle.scan_visit.specs.Visit.{DataFound, BadData, AnotherHeader, GoodData, HeaderFound, BadHeader, TrueHeader}
 use Rattle.scan_visit.specs.Visit.{FalseData, OtherMarker, at, payloadIn, byData, headerMark, byHeader, dataAt, bySync, dataFor, visit}
 use Rattle.scan.specs.Scan.{pastEnd, aRecord, recordsFrom}
-use Rattle.scan_visit.specs.Answers.{headerAnswer, dataAnswer}
+use Rattle.scan_visit.specs.Answers.{headerAnswer, DataBlock, dataAnswer}
 use Rattle.scan_visit.proofs.VisitLaws.{header→}
 use Rattle.scan.proofs.StepLaws.{Step, skip, good, stepData, stepHeader, stepOf}
 use Rattle.scan.proofs.ScanLaws.{next-yes, onStep}

@@ -1,23 +1,21 @@
 -- The records of a scan one by one: what the next one, or none, says of those that are left.
 --     over                    past the end of the scan
 --     next-some, next-none    by the answer that `next_record` gives
-use Prim.Native.Nat.{ℕ, zero, suc, _+_, _-_, _*_, _%_, _≤_, _<_}
+use Prim.Native.Nat.{ℕ, zero, suc, _+_, _-_, _*_, _≤_, _<_}
 use mathlib.Core.Path.{_≡_, refl, sym, ap, _∙_, subst}
 use mathlib.Core.Bool.{true, false}
-use mathlib.Core.List.{List, [], _∷_, _++_}
+use mathlib.Core.List.{List, [], _∷_}
 use native.Mathlib.Omega.{arith}
-use lib.ListN.{length, getD, length-append}
-use Rattle.base.specs.Limits.{longestRing}
+use lib.ListN.{length, getD}
 use Rattle.base.proofs.Lists.{length-tab, getD-tab}
 use Rattle.geometry.specs.Zones.{sectorsOf}
 use Rattle.gcr.proofs.DecodeLaws.{byteAt}
-use Rattle.ring.specs.Bit.{bits, bitAt}
 use Rattle.scan_sync.specs.declared.SyncEnd.{SyncEnd}
 use Rattle.scan_sync.specs.declared.SyncEnd.the-variants.{At, Nothing}
 use Rattle.scan.specs.declared.SectorRecord.{SectorRecord}
 use Rattle.scan.specs.declared.NextRecord.{NextRecord}
 use Rattle.scan_visit.specs.Visit.{visit}
-use Rattle.scan.specs.Scan.{nextSync, recordsOf, recordsFrom, records, mostRecords}
+use Rattle.scan.specs.Scan.{nextSync, recordsOf, recordsFrom}
 use Rattle.scan.specs.Answers.{nextOf}
 use Rattle.scan.proofs.StepLaws.{Step, skip, good, stepHeader, stepOf, Good, visit-good}
 use Rattle.scan.proofs.ScanLaws.{found-sync, next-found, visits-end, visits-none, visits-turn, onStep, one-step, skip-on, good-on}

@@ -2,24 +2,33 @@
 use mathlib.Core.Path.{_≡_, refl, sym, ap, ap₂, _∙_}
 use mathlib.Core.Logic.{_≢_}
 use mathlib.Core.Bool.{Bool, true, false, _&&_}
-use mathlib.Core.List.{List}
-use Prim.Native.Nat.{ℕ}
+use mathlib.Core.List.{List, _++_}
+use Prim.Native.Nat.{ℕ, _+_, _*_, _%_, _≤_, _<_}
 use native.Mathlib.Omega.{arith}
-use lib.Dec.{eqb, ltb}
+use lib.Dec.{eqb, ltb, lit≤}
+use lib.ListN.{length}
 use Rattle.base.specs.Choice.{pick}
 use Rattle.base.specs.Lists.{xorOf}
-use Rattle.base.proofs.Tests.{eqb-yes, eqb-no}
+use Rattle.base.proofs.InRow.{spelt}
+use Rattle.base.proofs.Tests.{eqb-yes, eqb-no, ltb-yes, ltb-no}
 use Rattle.geometry.specs.Zones.{sectorsOf}
+use Rattle.geometry.specs.Blocks.{headerSum}
 use Rattle.gcr.specs.Symbols.{Decoded, Bytes, IllegalAt}
 use Rattle.gcr.specs.Places.{decodeAt}
-use Rattle.gcr.proofs.DecodeLaws.{decode-illegal, illegal-decode}
-use Rattle.scan_visit.specs.declared.HeaderAt.the-variants.{No}
-use Rattle.scan_visit.specs.declared.DataAt.the-variants.{Another, Bad}
+use Rattle.gcr.specs.Answers.{answer4}
+use Rattle.gcr.specs.declared.Decoded4.{Decoded4}
+use Rattle.gcr.proofs.DecodeLaws.{decode-more, decode-stop}
+use Rattle.ring.specs.Bit.{bits, bitAt}
+use Rattle.gcr_blocks.specs.Answers.{isReadable, bytesIn}
+use Rattle.scan_visit.specs.declared.HeaderAt.{HeaderAt}
+use Rattle.scan_visit.specs.declared.HeaderAt.the-variants.{Sector, No}
+use Rattle.scan_visit.specs.declared.DataAt.the-variants.{Good, Another, Bad}
 use Rattle.scan_visit.specs.Visit.{DataFound, BadData, AnotherHeader, GoodData, OtherMarker, FalseData, NoSync}
 use Rattle.scan_visit.specs.Visit.{HeaderFound, BadHeader, TrueHeader, NoHeader, FalseHeader}
 use Rattle.scan_visit.specs.Visit.{at, payloadIn, byData, headerMark, dataAt, dataFor, trueSum, byHeader, visit}
-use Rattle.scan_visit.specs.Answers.{headerAnswer, dataAnswer}
+use Rattle.scan_visit.specs.Answers.{headerAnswer, DataBlock, dataAnswer}
 use Rattle.scan_visit.specs.Inside.{headerBy, withoutPayload, blockBy}
+use Rattle.scan_visit.proofs.GroupLaws.{longer, at-place, read-bytes, read-illegal}
 
 -- ---- the header at h
 header-any : (track : ℕ) (f g : DataFound) (b : List ℕ) → headerAnswer (byHeader track f (Bytes b)) ≡ headerAnswer
@@ -46,9 +55,76 @@ module _ (x : ℕ → ℕ) (track h : ℕ) where
   unfolding visit
   header-illegal k e = sym (ap (λ (o : Decoded). headerAnswer (byHeader track (dataFor x h) o)) e)
 
+-- the header at bit s of byte i, by its two groups
+module _ (r : List ℕ) (track h i s : ℕ) (here : 8 * i + s ≡ h % bits r) (g : Decoded4)
+    (e : g ≡ answer4 (decodeAt (bitAt r) (8 * i + s) 4)) where
+  pub first-illegal : g .ok ≡ false → No ≡ headerAnswer (visit (bitAt r) track h .found)
+  first-illegal t =
+      let f = read-illegal r i s h here g e t in
+      header-illegal (bitAt r) track h (f .0) (longer (bitAt r) h 4 8 (f .0) (lit≤ tt) (f .1))
+
+  module _ (t : g .ok ≡ true) (next : ℕ) (there : 8 * next + s ≡ (h + 40) % bits r) (g′ : Decoded4)
+      (e′ : g′ ≡ answer4 (decodeAt (bitAt r) (8 * next + s) 4)) where
+    pub second-illegal : g′ .ok ≡ false → No ≡ headerAnswer (visit (bitAt r) track h .found)
+    second-illegal t′ =
+        let f = read-illegal r next s (h + 40) there g′ e′ t′ in
+        header-illegal (bitAt r) track h (8 + f .0)
+        (decode-stop (bitAt r) h 4 (g .bytes) (read-bytes r i s h here g e t) 4 (f .0) 0 (f .1))
+
+    pub both-groups : g′ .ok ≡ true → headerBy track (g .bytes ++ g′ .bytes) ≡ headerAnswer (visit (bitAt r) track h .found)
+    both-groups t′ =
+        header-bytes (bitAt r) track h (g .bytes ++ g′ .bytes)
+        (decode-more (bitAt r) h 4 (g .bytes) (read-bytes r i s h here g e t) 4 (g′ .bytes)
+        (read-bytes r next s (h + 40) there g′ e′ t′))
+
+-- a header by the four bytes of its first group and those of its second, test by test
+module _ (track : ℕ) (a b : List ℕ) (four : length a ≡ 4) where
+  abbrev tests : Bool → Bool → Bool → Bool → HeaderAt
+  tests m t u l =
+      headerAnswer (pick (m && t) (pick u (pick l (TrueHeader (at a 2) (at b 1) (at b 0) (BadData NoSync)) (BadHeader NoHeader))
+      (BadHeader (FalseHeader (at a 2)))) (BadHeader NoHeader))
+
+  abbrev sum : ℕ
+  sum = headerSum (at a 2) (at a 3) (at b 0) (at b 1)
+
+  by-tests : headerBy track (a ++ b) ≡ tests (eqb (at a 0) 8) (eqb (at a 3) track) (eqb (at a 1) sum) (ltb (at a 2) (sectorsOf track))
+  by-tests =
+      ap (λ (l : List ℕ). headerBy track (l ++ b)) (spelt a 4 four)
+
+  pub header-mark : at a 0 ≢ 8 → No ≡ headerBy track (a ++ b)
+  header-mark p =
+      sym (by-tests ∙ ap (λ (m : Bool). tests m (eqb (at a 3) track) (eqb (at a 1) sum) (ltb (at a 2) (sectorsOf track)))
+      (eqb-no (at a 0) 8 p))
+
+  module _ (p : at a 0 ≡ 8) where
+    pub header-track : at a 3 ≢ track → No ≡ headerBy track (a ++ b)
+    header-track q =
+        sym (by-tests ∙ ap₂ (λ (m t : Bool). tests m t (eqb (at a 1) sum) (ltb (at a 2) (sectorsOf track))) (eqb-yes (at a 0) 8 p)
+        (eqb-no (at a 3) track q))
+
+    module _ (q : at a 3 ≡ track) where
+      marked : headerBy track (a ++ b) ≡ tests true true (eqb (at a 1) sum) (ltb (at a 2) (sectorsOf track))
+      marked =
+          by-tests ∙ ap₂ (λ (m t : Bool). tests m t (eqb (at a 1) sum) (ltb (at a 2) (sectorsOf track))) (eqb-yes (at a 0) 8 p)
+          (eqb-yes (at a 3) track q)
+
+      pub header-sum : at a 1 ≢ sum → No ≡ headerBy track (a ++ b)
+      header-sum u =
+          sym (marked ∙ ap (λ (c : Bool). tests true true c (ltb (at a 2) (sectorsOf track))) (eqb-no (at a 1) sum u))
+
+      module _ (u : at a 1 ≡ sum) where
+        pub header-high : sectorsOf track ≤ at a 2 → No ≡ headerBy track (a ++ b)
+        header-high l =
+            sym (marked ∙ ap₂ (λ (c h : Bool). tests true true c h) (eqb-yes (at a 1) sum u) (ltb-no (at a 2) (sectorsOf track) l))
+
+        pub header-true : at a 2 < sectorsOf track → Sector (at a 2) ≡ headerBy track (a ++ b)
+        header-true l =
+            sym (marked ∙ ap₂ (λ (c h : Bool). tests true true c h) (eqb-yes (at a 1) sum u) (ltb-yes (at a 2) (sectorsOf track) l))
+
 -- ---- the data block at d
-block-any : (d e : ℕ) (b : List ℕ) → dataAnswer (byData d (Bytes b)) ≡ dataAnswer (byData e (Bytes b))
-block-any d e b = go (eqb (at b 0) 7) (eqb (xorOf (payloadIn b)) (at b 257))
+block-any : (d e : ℕ) (o : Decoded) → dataAnswer (byData d o) ≡ dataAnswer (byData e o)
+block-any d e (IllegalAt k) = refl
+block-any d e (Bytes b) = go (eqb (at b 0) 7) (eqb (xorOf (payloadIn b)) (at b 257))
   where
     by : ℕ → Bool → Bool → DataFound
     by d t u = pick t (pick u (GoodData d (payloadIn b)) (BadData (FalseData d))) (BadData (OtherMarker d))
@@ -58,21 +134,41 @@ block-any d e b = go (eqb (at b 0) 7) (eqb (xorOf (payloadIn b)) (at b 257))
     go true false = refl
     go false u = refl
 
+-- a data block by what its 260 bytes decode to, test by test
+pub block-illegal : (o : Decoded) → isReadable o ≡ false → withoutPayload Bad ≡ dataAnswer (byData 0 o)
+block-illegal (IllegalAt k) e = refl
+block-illegal (Bytes b) e = absurd (let z : _≡_ {A = ℕ} 0 1 = cc in omega arith)
+
+module _ (o : Decoded) (e : isReadable o ≡ true) where
+  abbrev b : List ℕ
+  b = bytesIn o
+
+  abbrev verdict : Bool → Bool → DataBlock
+  verdict t u = dataAnswer (pick t (pick u (GoodData 0 (payloadIn b)) (BadData (FalseData 0))) (BadData (OtherMarker 0)))
+
+  by-bytes : dataAnswer (byData 0 o) ≡ verdict (eqb (at b 0) 7) (eqb (xorOf (payloadIn b)) (at b 257))
+  by-bytes = go o e
+    where
+      go : (o : Decoded) → isReadable o ≡ true → dataAnswer (byData 0 o) ≡ blockBy (bytesIn o)
+      go (Bytes c) e = refl
+      go (IllegalAt k) e = absurd (let z : _≡_ {A = ℕ} 0 1 = cc in omega arith)
+
+  pub block-mark : at b 0 ≢ 7 → withoutPayload Bad ≡ dataAnswer (byData 0 o)
+  block-mark p = sym (by-bytes ∙ ap (λ (t : Bool). verdict t (eqb (xorOf (payloadIn b)) (at b 257))) (eqb-no (at b 0) 7 p))
+
+  pub block-sum : at b 0 ≡ 7 → xorOf (payloadIn b) ≢ at b 257 → withoutPayload Bad ≡ dataAnswer (byData 0 o)
+  block-sum p q = sym (by-bytes ∙ ap₂ (λ (t u : Bool). verdict t u) (eqb-yes (at b 0) 7 p) (eqb-no (xorOf (payloadIn b)) (at b 257) q))
+
+  pub block-good : at b 0 ≡ 7 → xorOf (payloadIn b) ≡ at b 257
+      → (record { verdict = Good; payload = payloadIn b }) ≡ dataAnswer (byData 0 o)
+  block-good p q = sym (by-bytes ∙ ap₂ (λ (t u : Bool). verdict t u) (eqb-yes (at b 0) 7 p) (eqb-yes (xorOf (payloadIn b)) (at b 257) q))
+
 module _ (x : ℕ → ℕ) (d : ℕ) where
-  pub block-bytes : (b : List ℕ) → decodeAt x d 260 ≡ Bytes b → blockBy b ≡ dataAnswer (byData d (decodeAt x d 260))
-  block-bytes b e = block-any 0 d b ∙ sym (ap (λ (o : Decoded). dataAnswer (byData d o)) e)
-
-  pub block-illegal : (k : ℕ) → decodeAt x d 260 ≡ IllegalAt k → withoutPayload Bad ≡ dataAnswer (byData d (decodeAt x d 260))
-  block-illegal k e = sym (ap (λ (o : Decoded). dataAnswer (byData d o)) e)
-
-  -- the marker, in the first five bytes
+  -- the marker, in the first group
   pub data-illegal : (k : ℕ) → decodeAt x d 4 ≡ IllegalAt k → withoutPayload Bad ≡ dataAnswer (dataAt x d)
   unfolding dataAt
   data-illegal k e =
-      let q = decode-illegal x d 4 k e in
-      let f : decodeAt x d 260 ≡ IllegalAt k
-      = illegal-decode x d 260 k (record { inside = omega (arith, q .inside); illegal = q .illegal; before = q .before }) in
-      sym (ap₂ (λ (u v : Decoded). dataAnswer (pick (headerMark u) (AnotherHeader d) (byData d v))) e f)
+      sym (ap₂ (λ (u v : Decoded). dataAnswer (pick (headerMark u) (AnotherHeader d) (byData d v))) e (longer x d 4 260 k (lit≤ tt) e))
 
   module _ (b : List ℕ) (e : decodeAt x d 4 ≡ Bytes b) where
     pub data-mark : at b 0 ≡ 8 → withoutPayload Another ≡ dataAnswer (dataAt x d)
@@ -85,3 +181,9 @@ module _ (x : ℕ → ℕ) (d : ℕ) where
     unfolding dataAt
     data-block m =
         sym (ap (λ (t : Bool). dataAnswer (pick t (AnotherHeader d) (byData d (decodeAt x d 260)))) (ap headerMark e ∙ eqb-no (at b 0) 8 m))
+
+-- the block at bit s of byte i is the one at d
+pub block-here : (r : List ℕ) (i s d : ℕ) → 8 * i + s ≡ d % bits r
+    → dataAnswer (byData 0 (decodeAt (bitAt r) (8 * i + s) 260)) ≡ dataAnswer (byData d (decodeAt (bitAt r) d 260))
+block-here r i s d here =
+    ap (λ (o : Decoded). dataAnswer (byData 0 o)) (at-place r i s d here 260) ∙ block-any 0 d (decodeAt (bitAt r) d 260)

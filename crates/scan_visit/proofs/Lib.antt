@@ -1,4 +1,5 @@
 pub mod VisitLaws
 pub mod BlockTests
-pub mod Copied
+pub mod GroupLaws
+pub mod WholeBlock
 pub mod SameBits

@@ -1,15 +1,21 @@
 // Blocks where they stand on a ring: a header, and a data block.
 ghost use mathlib.Core.Path.{_≡_};
-ghost use Prim.Native.Nat.{_+_, _*_, _^_, _<_};
+ghost use mathlib.Core.List.{_++_};
+ghost use Prim.Native.Nat.{_+_, _*_, _%_, _^_, _<_, _≤_};
+ghost use lib.Bits.{bitXor};
 ghost use lib.ListN.{length};
+ghost use lib.Seq.{sets};
+ghost use Rattle.base.specs.Limits.{longestRing};
+ghost use Rattle.base.specs.Lists.{xorOf};
 ghost use Rattle.geometry.specs.Blocks.{headerBits, blockBits};
+ghost use Rattle.gcr.specs.Symbols.{Bytes};
 ghost use Rattle.gcr.specs.Places.{decodeAt};
-ghost use Rattle.gcr_blocks.specs.Blocks.{groupsIn};
+ghost use Rattle.gcr.specs.Answers.{answer4};
 ghost use Rattle.ring.specs.Bit.{IsRing, bitAt};
 ghost use Rattle.scan_visit.specs.Visit.{visit, dataAt, byData};
-ghost use Rattle.scan_visit.specs.Answers.{headerAnswer, dataAnswer};
-ghost use Rattle.scan_visit.specs.Inside.{CopyDecoded, headerBy, withoutPayload, blockBy};
-use gcr_blocks::Coded;
+ghost use Rattle.scan_visit.specs.Answers.{headerAnswer, aBlock, dataAnswer};
+ghost use Rattle.scan_visit.specs.Inside.{headerBy, withoutPayload, GroupsRead, BlockRead};
+use gcr::Decoded4;
 
 // A true header of the track, by its sector, or none.
 pub enum HeaderAt {
@@ -24,40 +30,38 @@ pub enum DataAt {
     Bad,
 }
 
-// The verdict on a data place, and the payload where it is good, else zeros.
-pub struct DataBlock {
-    pub verdict: DataAt,
-    pub payload: [u8; 256],
-}
-
-// The block at `place`, its code copied off the ring and decoded: are all its symbols in the table?
-fn decode_copy(ring: &[u8], place: usize, code: &mut [u8], out: &mut [u8]) -> bool
+// The group that begins at bit s of byte i.
+fn group_at(ring: &[u8], i: usize, s: usize) -> Decoded4
     requires { ⌜ IsRing (now ring) ⌝ }
-    requires { ⌜ place + 8 * length (now code) < 2 ^ 64 ⌝ }
-    requires { ⌜ 4 * groupsIn (now code) ≡ length (now out) ⌝ }
-    ensures { λ r. ⌜ CopyDecoded (now (ring .entry)) place (now (code .entry)) (now (out .entry)) (now (code .exit)) (now (out .exit)) r ⌝ }
+    requires { ⌜ (i < length (now ring)) × (s < 8) ⌝ }
+    ensures { λ r. ⌜ r ≡ answer4 (decodeAt (bitAt (now (ring .entry))) (8 * i + s) 4) ⌝ }
 {
-    ring::read_circular_bytes(ring, place, code);
-    let read = gcr_blocks::decode_gcr_block(code, out);
-    match read {
-        Coded::Written(count) => true,
-        Coded::Refused(number) => false,
-    }
+    gcr::decode_bits(ring::forty_bits(ring, i, s))
 }
 
-// A header by its eight bytes.
-fn checked_header(b: &[u8], track: u8) -> HeaderAt
-    requires { ⌜ length (now b) ≡ 8 ⌝ }
-    ensures { λ r. ⌜ r ≡ headerBy track (now (b .entry)) ⌝ }
+// The byte five bytes after byte i of n, counted round. A ring may be shorter than a group.
+fn five_on(i: usize, n: usize) -> usize
+    requires { ⌜ (i < n) × (n ≤ longestRing) ⌝ }
+    ensures { λ r. ⌜ (r ≡ (i + 5) % n) × (r < n) ⌝ }
 {
-    if b[0] != 0x08 {
+    if i + 5 < n {
+        return i + 5;
+    }
+    (i + 5) % n
+}
+
+// A header by the bytes of its two groups.
+fn checked_header(a: [u8; 4], b: [u8; 4], track: u8) -> HeaderAt
+    ensures { λ r. ⌜ r ≡ headerBy track (a ++ b) ⌝ }
+{
+    if a[0] != 0x08 {
         return HeaderAt::No;
     }
-    if b[3] != track {
+    if a[3] != track {
         return HeaderAt::No;
     }
-    let sector = b[2];
-    if b[1] != sector ^ b[3] ^ b[4] ^ b[5] {
+    let sector = a[2];
+    if a[1] != sector ^ a[3] ^ b[0] ^ b[1] {
         return HeaderAt::No;
     }
     if geometry::sectors_per_track(track) <= sector {
@@ -72,70 +76,162 @@ pub fn header_at(ring: &[u8], track: u8, place: usize) -> HeaderAt
     requires { ⌜ place + headerBits < 2 ^ 64 ⌝ }
     ensures { λ r. ⌜ r ≡ headerAnswer (visit (bitAt (now (ring .entry))) track place .found) ⌝ }
 {
-    let mut code = [0u8; 10];
-    let mut header = [0u8; 8];
-    if !decode_copy(ring, place, &mut code, &mut header) {
+    let n = ring.len();
+    let start = place % (8 * n);
+    let i = start / 8;
+    let s = start % 8;
+    let first = group_at(ring, i, s);
+    if !first.ok {
         return HeaderAt::No;
     }
-    checked_header(&header, track)
+    let second = group_at(ring, five_on(i, n), s);
+    if !second.ok {
+        return HeaderAt::No;
+    }
+    let a = first.bytes;
+    let b = second.bytes;
+    checked_header(a, b, track)
 }
 
-// A verdict without a payload.
-fn without_payload(verdict: DataAt) -> DataBlock
-    ensures { λ r. ⌜ r ≡ withoutPayload verdict ⌝ }
+// A verdict, and no payload.
+fn wiped(payload: &mut [u8; 256], verdict: DataAt) -> DataAt
+    ensures { λ r. ⌜ aBlock r (now (payload .exit)) ≡ withoutPayload verdict ⌝ }
 {
-    DataBlock {
-        verdict: verdict,
-        payload: [0u8; 256],
-    }
+    *payload = [0u8; 256];
+    verdict
 }
 
-// A data block by its 260 bytes.
-fn checked_block(b: &[u8]) -> DataBlock
-    requires { ⌜ length (now b) ≡ 260 ⌝ }
-    ensures { λ r. ⌜ r ≡ blockBy (now (b .entry)) ⌝ }
+// Four bytes of a payload stored from `at` on, and their xor with `sum`.
+fn take_four(payload: &mut [u8], at: usize, g: [u8; 4], sum: u8) -> u8
+    requires { ⌜ at + 4 ≤ length (now payload) ⌝ }
+    ensures { λ r. ⌜ (now (payload .exit) ≡ sets (now (payload .entry)) at g) × (r ≡ bitXor sum (xorOf g)) ⌝ }
 {
-    if b[0] != 0x07 {
-        return without_payload(DataAt::Bad);
+    payload[at] = g[0];
+    payload[at + 1] = g[1];
+    payload[at + 2] = g[2];
+    payload[at + 3] = g[3];
+    sum ^ g[0] ^ g[1] ^ g[2] ^ g[3]
+}
+
+// Groups read in a row: are all their symbols in the table, the xor with their bytes, and the byte of the ring that follows.
+struct GroupRun {
+    pub ok: bool,
+    pub sum: u8,
+    pub next: usize,
+}
+
+// The 63 groups of a data block that are payload whole, from bit s of byte i on.
+fn read_groups(ring: &[u8], i: usize, s: usize, sum: u8, payload: &mut [u8]) -> GroupRun
+    requires { ⌜ IsRing (now ring) ⌝ }
+    requires { ⌜ (i < length (now ring)) × (s < 8) ⌝ }
+    requires { ⌜ length (now payload) ≡ 256 ⌝ }
+    ensures { λ r. ⌜ GroupsRead (now (ring .entry)) i s sum (now (payload .entry)) (now (payload .exit)) r ⌝ }
+{
+    let n = ring.len();
+    let mut xor = sum;
+    let mut at = i;
+    for k in 0..63usize {
+        let g = group_at(ring, at, s);
+        if !g.ok {
+            return GroupRun {
+                ok: false,
+                sum: 0,
+                next: 0,
+            };
+        }
+        let bytes = g.bytes;
+        xor = take_four(payload, 3 + 4 * k, bytes, xor);
+        at = five_on(at, n);
     }
-    let sum = base::xor_of(&b[1..257]);
-    if sum != b[257] {
-        return without_payload(DataAt::Bad);
-    }
-    let payload = base::copy_block(&b[1..257]);
-    DataBlock {
-        verdict: DataAt::Good,
-        payload: payload,
+    GroupRun {
+        ok: true,
+        sum: xor,
+        next: at,
     }
 }
 
-// The data block at `place`, where its marker is not a header's.
-fn block_at(ring: &[u8], place: usize) -> DataBlock
+// A data block read: are all its symbols in the table, the xor of its payload, and what its checksum says.
+struct BlockSums {
+    pub ok: bool,
+    pub sum: u8,
+    pub told: u8,
+}
+
+// The data block at bit s of byte i, whose first group is `first`.
+fn read_block(ring: &[u8], i: usize, s: usize, first: [u8; 4], payload: &mut [u8]) -> BlockSums
+    requires { ⌜ IsRing (now ring) ⌝ }
+    requires { ⌜ (i < length (now ring)) × (s < 8) ⌝ }
+    requires { ⌜ length (now payload) ≡ 256 ⌝ }
+    requires { ⌜ decodeAt (bitAt (now ring)) (8 * i + s) 4 ≡ Bytes first ⌝ }
+    ensures { λ r. ⌜ BlockRead (decodeAt (bitAt (now (ring .entry))) (8 * i + s) 260) (now (payload .exit)) r ⌝ }
+{
+    payload[0] = first[1];
+    payload[1] = first[2];
+    payload[2] = first[3];
+    let second = five_on(i, ring.len());
+    let xor = first[1] ^ first[2] ^ first[3];
+    let run = read_groups(ring, second, s, xor, payload);
+    if !run.ok {
+        return BlockSums {
+            ok: false,
+            sum: 0,
+            told: 0,
+        };
+    }
+    let last = group_at(ring, run.next, s);
+    if !last.ok {
+        return BlockSums {
+            ok: false,
+            sum: 0,
+            told: 0,
+        };
+    }
+    let end = last.bytes;
+    payload[255] = end[0];
+    BlockSums {
+        ok: true,
+        sum: run.sum ^ end[0],
+        told: end[1],
+    }
+}
+
+// The data block at bit s of byte i, whose first group is `first` and has no header's marker. All its symbols are looked at first.
+fn block_at(ring: &[u8], i: usize, s: usize, first: [u8; 4], payload: &mut [u8; 256]) -> DataAt
+    requires { ⌜ IsRing (now ring) ⌝ }
+    requires { ⌜ (i < length (now ring)) × (s < 8) ⌝ }
+    requires { ⌜ decodeAt (bitAt (now ring)) (8 * i + s) 4 ≡ Bytes first ⌝ }
+    ensures { λ r. ⌜ aBlock r (now (payload .exit)) ≡ dataAnswer (byData 0 (decodeAt (bitAt (now (ring .entry))) (8 * i + s) 260)) ⌝ }
+{
+    let read = read_block(ring, i, s, first, payload);
+    if !read.ok {
+        return wiped(payload, DataAt::Bad);
+    }
+    if first[0] != 0x07 {
+        return wiped(payload, DataAt::Bad);
+    }
+    if read.sum != read.told {
+        return wiped(payload, DataAt::Bad);
+    }
+    DataAt::Good
+}
+
+// What stands at the data place `place`; the marker is looked at first, in the first group alone. The payload is stored where the block
+// is good, else zeros.
+pub fn data_at(ring: &[u8], place: usize, payload: &mut [u8; 256]) -> DataAt
     requires { ⌜ IsRing (now ring) ⌝ }
     requires { ⌜ place + blockBits < 2 ^ 64 ⌝ }
-    ensures { λ r. ⌜ r ≡ dataAnswer (byData place (decodeAt (bitAt (now (ring .entry))) place 260)) ⌝ }
+    ensures { λ r. ⌜ aBlock r (now (payload .exit)) ≡ dataAnswer (dataAt (bitAt (now (ring .entry))) place) ⌝ }
 {
-    let mut code = [0u8; 325];
-    let mut block = [0u8; 260];
-    if !decode_copy(ring, place, &mut code, &mut block) {
-        return without_payload(DataAt::Bad);
+    let start = place % (8 * ring.len());
+    let i = start / 8;
+    let s = start % 8;
+    let first = group_at(ring, i, s);
+    if !first.ok {
+        return wiped(payload, DataAt::Bad);
     }
-    checked_block(&block)
-}
-
-// What stands at the data place `place`; the marker is looked at first, in the first five bytes alone.
-pub fn data_at(ring: &[u8], place: usize) -> DataBlock
-    requires { ⌜ IsRing (now ring) ⌝ }
-    requires { ⌜ place + blockBits < 2 ^ 64 ⌝ }
-    ensures { λ r. ⌜ r ≡ dataAnswer (dataAt (bitAt (now (ring .entry))) place) ⌝ }
-{
-    let mut code = [0u8; 5];
-    let mut marker = [0u8; 4];
-    if !decode_copy(ring, place, &mut code, &mut marker) {
-        return without_payload(DataAt::Bad);
+    let bytes = first.bytes;
+    if bytes[0] == 0x08 {
+        return wiped(payload, DataAt::Another);
     }
-    if marker[0] == 0x08 {
-        return without_payload(DataAt::Another);
-    }
-    block_at(ring, place)
+    block_at(ring, i, s, bytes, payload)
 }

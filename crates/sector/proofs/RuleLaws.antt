@@ -1,19 +1,22 @@
 -- The rules by what the search found: reading, and replacing.
---     decided-read                    what the code makes of a search is what reading answers
---     small-places                    the places found are small
+--     read-refused, read-good         what the code makes of a search is what reading answers
+--     small-found, taken-found        the places found are small, and are those of the copies
 --     refused-by, rewritten-by        replacing: refused, and not
 use mathlib.Core.Path.{_≡_, refl, sym, ap, _∙_, subst}
+use mathlib.Core.Logic.{_≢_}
 use mathlib.Core.Bool.{Bool, true, false, not}
 use mathlib.Core.List.{List, [], _∷_, _++_}
 use Prim.Native.Nat.{ℕ, zero, suc, _+_, _-_, _≤_, _<_}
 use native.Mathlib.Omega.{arith}
 use lib.Dec.{eqb}
-use lib.ListN.{length, getD, take, drop, replicate, length-append, length-map, length-drop}
-use lib.Seq.{take-at}
+use lib.ListN.{length, getD, take, drop, length-map}
+use lib.Seq.{take-at, length-sets}
 use borrow.Author.Tests.{ne-eqb, lt-ltb}
 use Rattle.base.specs.Choice.{pick}
 use Rattle.base.specs.Limits.{longestRing}
 use Rattle.base.specs.Refusals.{ambiguous, _when_, refusal, unless}
+use Rattle.base.proofs.Refusing.{unless-some}
+use Rattle.base.proofs.InRow.{sets-front}
 use Rattle.ring.specs.Bit.{IsRing, bits, bitAt}
 use Rattle.scan.specs.declared.SectorRecord.{SectorRecord}
 use Rattle.scan.specs.Scan.{mostRecords}
@@ -21,15 +24,15 @@ use Rattle.scan.proofs.ScanLaws.{Every}
 use Rattle.scan.proofs.Few.{few-records}
 use Rattle.scan.proofs.EachRecord.{each-next}
 use Rattle.base.specs.declared.Sector.{Sector}
-use Rattle.sector.specs.declared.Replaced.{Replaced}
-use Rattle.sector.specs.declared.Replaced.the-variants.{Refused}
+use Rattle.sector.specs.declared.Replaced.the-variants.{Written, Refused}
 use Rattle.sector.specs.declared.Rule.{Rule}
 use Rattle.sector.specs.declared.Rule.the-variants.{Unique, Consistent}
-use Rattle.sector.specs.declared.Copies.{Copies}
+use Rattle.sector.specs.declared.Tally.{Tally}
+use Rattle.sector.specs.declared.Places.{Places}
 use Rattle.sector.specs.Rules.{recordsIn, recordsFor, allLike, unique, consistent, ruleOf, readBy}
 use Rattle.base.specs.Sectors.{good, refused}
 use Rattle.sector.specs.Replacing.{dataBlock, writtenAt, placesIn, replacedBy, answerOf}
-use Rattle.sector.specs.Inside.{copiesOf, copiesIn, isAmbiguous, decided, SmallPlaces}
+use Rattle.sector.specs.Inside.{Copies, search, firstPayload, tallyOf, placesOf, copiesOf, isAmbiguous, refusalBy, PlacesFound, SmallPlaces}
 use Rattle.sector.proofs.SectorLaws.{read-scanned}
 use Rattle.sector.proofs.CopiesLaws.{whole, few-for}
 
@@ -37,26 +40,39 @@ use Rattle.sector.proofs.CopiesLaws.{whole, few-for}
 some-not-none : (n : ℕ) → eqb (suc n) 0 ≡ false
 some-not-none n = ne-eqb (suc n) 0 (λ z. omega arith)
 
-decided-by : (rule : Rule) (own : List SectorRecord) → decided rule (copiesOf own) ≡ ruleOf rule own
-unfolding decided unique consistent
-decided-by Unique [] = refl
-decided-by Unique (r ∷ []) = refl
-decided-by Unique (r ∷ q ∷ l) = rw (some-not-none (suc (length l)), lt-ltb 1 (suc (suc (length l))) (omega arith))
-decided-by Consistent [] = refl
-decided-by Consistent (r ∷ l) = rw (some-not-none (length l)) (by (allLike (r .payload) l))
+-- a rule by what was counted, and by the payload of the first copy
+pub decided-by : (rule : Rule) (lent : List ℕ) (own : List SectorRecord)
+    → unless (refusalBy rule (tallyOf own)) refused (good (firstPayload lent own)) ≡ ruleOf rule own
+unfolding refusalBy unique consistent
+decided-by Unique lent [] = refl
+decided-by Unique lent (r ∷ []) = refl
+decided-by Unique lent (r ∷ q ∷ l) = rw (some-not-none (suc (length l)), lt-ltb 1 (suc (suc (length l))) (omega arith))
+decided-by Consistent lent [] = refl
+decided-by Consistent lent (r ∷ l) = rw (some-not-none (length l)) (by (allLike (r .payload) l))
   where
     by : (b : Bool) → unless (refusal (ambiguous when not b ∷ [])) refused (good (r .payload)) ≡ pick b (good (r .payload)) (refused ambiguous)
     by true = refl
     by false = refl
 
-pub ambiguous-as : (found : Copies) (rule known : Rule) → rule ≡ known → isAmbiguous known found ≡ isAmbiguous rule found
+pub ambiguous-as : (found : Tally) (rule known : Rule) → rule ≡ known → isAmbiguous known found ≡ isAmbiguous rule found
 ambiguous-as found rule known e = ap (λ (r : Rule). isAmbiguous r found) (sym e)
 
-module _ (ring : List ℕ) (track sector : ℕ) (is : IsRing ring) (found : Copies) (e : found ≡ copiesIn sector (recordsIn ring track)) where
-  pub decided-read : (rule : Rule) → decided rule found ≡ readBy (ruleOf rule) ring track sector
-  decided-read rule =
-      ap (decided rule) e ∙ decided-by rule (recordsFor sector (recordsIn ring track))
-      ∙ sym (read-scanned (ruleOf rule) ring track sector is)
+-- the number by which a rule refuses, and the payload where it does not, are what reading answers
+module _ (ring : List ℕ) (track sector : ℕ) (is : IsRing ring) (rule : Rule) (number : ℕ)
+    (e : number ≡ refusalBy rule (tallyOf (recordsFor sector (recordsIn ring track)))) where
+  abbrev own : List SectorRecord
+  own = recordsFor sector (recordsIn ring track)
+
+  read-as : (lent : List ℕ) → unless number refused (good (firstPayload lent own)) ≡ readBy (ruleOf rule) ring track sector
+  read-as lent =
+      ap (λ (n : ℕ). unless n refused (good (firstPayload lent own))) e
+      ∙ decided-by rule lent own ∙ sym (read-scanned (ruleOf rule) ring track sector is)
+
+  pub read-refused : number ≢ 0 → refused number ≡ readBy (ruleOf rule) ring track sector
+  read-refused n = sym (unless-some number number refused (good (firstPayload [] own)) refl n) ∙ read-as []
+
+  pub read-good : (lent : List ℕ) → number ≡ 0 → good (firstPayload lent own) ≡ readBy (ruleOf rule) ring track sector
+  read-good lent z = sym (ap (λ (n : ℕ). unless n refused (good (firstPayload lent own))) z) ∙ read-as lent
 
 -- ---- the places found
 every-for : (P : SectorRecord → Type 0) (sector : ℕ) (rs : List SectorRecord) → Every P rs → Every P (recordsFor sector rs)
@@ -79,35 +95,59 @@ all-near ring track h =
     subst (Every (λ r. r .place < 2000000)) (whole ring track)
     (each-next (bitAt ring) track (bits ring) (λ r. r .place < 2000000) 0 (λ c r l i. omega (arith, i .near)))
 
-pub small-places : (ring : List ℕ) (track sector : ℕ) → IsRing ring → (found : Copies) → found ≡ copiesIn sector (recordsIn ring track)
-    → SmallPlaces (found .count) (found .places)
-small-places ring track sector is found e =
-    let own : List SectorRecord = recordsFor sector (recordsIn ring track) in
-    let few : length own ≤ mostRecords = omega (arith, few-for sector (recordsIn ring track), few-records ring track 0 (is .small)) in
-    subst (λ (c : Copies). SmallPlaces (c .count) (c .places)) (sym e)
-    (record {
-      fits = simp (length-append, length-map, length-drop) (omega arith);
-      small = every-place 2000000 own _ (every-for _ sector (recordsIn ring track) (all-near ring track (is .small)));
-    })
+-- the places that were stored, where there is room for all records
+module _ (ring : List ℕ) (track sector : ℕ) (is : IsRing ring) (lent : List ℕ) (wide : length lent ≡ mostRecords) where
+  abbrev found : List SectorRecord
+  found = recordsFor sector (recordsIn ring track)
+
+  few : length found ≤ mostRecords
+  few = omega (arith, few-for sector (recordsIn ring track), few-records ring track 0 (is .small))
+
+  in-front : placesOf lent found ≡ placesIn found ++ drop (length found) lent
+  in-front = sets-front (placesIn found) lent (length found) (length-map found (λ r. r .place)) (omega (arith, few))
+
+  small-places : SmallPlaces (length found) (placesOf lent found)
+  small-places =
+      record {
+        fits = omega (arith, length-sets lent 0 (placesIn found), few);
+        small = subst (λ (l : List ℕ). (i : ℕ) → i < length found → getD l i 0 < 2000000) (sym in-front)
+            (every-place 2000000 found _ (every-for _ sector (recordsIn ring track) (all-near ring track (is .small))));
+      }
+
+  the-places : take (length found) (placesOf lent found) ≡ placesIn found
+  the-places = ap (take (length found)) in-front
+      ∙ take-at (placesIn found) (drop (length found) lent) (length found) (length-map found (λ r. r .place))
+
+  -- the same of what `find_places` tells
+  module _ (rule : Rule) (after : List ℕ) (r : Places) (p : PlacesFound rule lent found after r) where
+    pub small-found : SmallPlaces (r .count) after
+    small-found =
+        subst (λ (n : ℕ). SmallPlaces n after) (sym (p .counted))
+        (subst (λ (l : List ℕ). SmallPlaces (length found) l) (sym (p .stored)) small-places)
+
+    pub taken-found : take (r .count) after ≡ placesIn found
+    taken-found = ap (λ (n : ℕ). take n after) (p .counted) ∙ ap (take (length found)) (p .stored) ∙ the-places
+
+-- a search and its rule, told
+pub places-told : (rule : Rule) (payload lent : List ℕ) (own : List SectorRecord) (t : Tally) (first after : List ℕ)
+    → search t first after ≡ copiesOf payload lent own → (number : ℕ) → number ≡ refusalBy rule t
+    → PlacesFound rule lent own after (record { number = number; count = t .count })
+places-told rule payload lent own t first after e number n =
+    record {
+      told = n ∙ ap (λ (y : Copies). refusalBy rule (y .tally)) e;
+      counted = ap (λ (y : Copies). y .tally .count) e;
+      stored = ap (λ (y : Copies). y .places) e;
+    }
 
 -- ---- replacing
-the-places : (own : List SectorRecord) → take (copiesOf own .count) (copiesOf own .places) ≡ placesIn own
-the-places own = take-at (placesIn own) (drop (length own) (replicate mostRecords 0)) (length own) (length-map own (λ r. r .place))
-
 module _ (rule : List SectorRecord → Sector) (ring : List ℕ) (track sector : ℕ) (payload : List ℕ) where
   pub refused-by : (n : ℕ) → readBy rule ring track sector ≡ refused n
       → (Refused n ≡ answerOf (readBy rule ring track sector)) × (ring ≡ replacedBy rule track sector payload ring)
   unfolding answerOf replacedBy
   refused-by n e = (rw e, rw e)
 
-  pub rewritten-by : (found : Copies) → found ≡ copiesIn sector (recordsIn ring track)
-      → (answer : Sector) → answer ≡ readBy rule ring track sector
-      → (r : Replaced) (after : List ℕ) → r ≡ answerOf answer
-      → after ≡ pick (answer .ok) (writtenAt (take (found .count) (found .places)) (dataBlock payload) ring) ring
-      → (r ≡ answerOf (readBy rule ring track sector)) × (after ≡ replacedBy rule track sector payload ring)
-  unfolding replacedBy
-  rewritten-by found e answer a r after p q =
-      let t : take (found .count) (found .places) ≡ placesIn (recordsFor sector (recordsIn ring track)) =
-      ap (λ (c : Copies). take (c .count) (c .places)) e
-      ∙ the-places (recordsFor sector (recordsIn ring track)) in
-      (p ∙ ap answerOf a, q ∙ rw (t, a))
+  pub rewritten-by : (bytes : List ℕ) → readBy rule ring track sector ≡ good bytes → (places after : List ℕ)
+      → places ≡ placesIn (recordsFor sector (recordsIn ring track)) → after ≡ writtenAt places (dataBlock payload) ring
+      → (Written ≡ answerOf (readBy rule ring track sector)) × (after ≡ replacedBy rule track sector payload ring)
+  unfolding answerOf replacedBy
+  rewritten-by bytes e places after p q = (rw e, q ∙ rw (p, e))

@@ -1,4 +1,5 @@
 use Rattle.image_rings.proofs.TableLaws.{ring-absent, ring-here}
+use Rattle.image_rings.specs.Rings.{rings}
 use borrow.Author.Needs.{needs}
 use Rattle.image_rings.proofs.ring_place.Statement.{statement}
 use Rattle.image_rings.proofs.ring_place.Tie as tie
@@ -16,7 +17,7 @@ element-copy-out-long : tie.Need-element-copy-out-long
 element-copy-out-long c = search needs
 
 returns : tie.Need-returns
-returns c = let a = c .before .before .args in ring-absent (a .t1) (a .track) (c .if1 .taken)
+returns c = let a = c .before .before .args in ring-absent (rings (a .starts .now) (a .lengths .now)) (a .track) (c .if1 .taken)
 
 mul-start : tie.Need-mul-start
 mul-start c = search needs
@@ -25,7 +26,7 @@ element-copy-out-start : tie.Need-element-copy-out-start
 element-copy-out-start c = search needs
 
 returns-2 : tie.Need-returns-2
-returns-2 c = let a = c .before .before .before .args in ring-here (a .t1) (a .track) (c .before .if1 .left)
+returns-2 c = let a = c .before .before .before .args in ring-here (rings (a .starts .now) (a .lengths .now)) (a .track) (c .before .if1 .left)
 
 pub ring-place-spec : {M : Type 1} → statement M
 ring-place-spec =

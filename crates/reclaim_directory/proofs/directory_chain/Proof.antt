@@ -1,5 +1,6 @@
 use Rattle.reclaim_directory.proofs.ChainSteps.{chain-of-bad, chain-of}
 use borrow.Author.Tests.{not-true, not-false}
+use Rattle.image_rings.specs.Rings.{rings}
 use Rattle.image_sector.specs.Media.{mediumOf}
 use Rattle.reclaim_directory.specs.Chains.{chainAt}
 use Rattle.reclaim_directory.specs.Marks.{noMarks, markPlace}
@@ -31,7 +32,7 @@ returns c =
     let e = v .before .before .before .before in
     let a = e .args in
     c .broken-chain .ensures
-    ∙ chain-of-bad (linksUpTo (a .highest) disk1541) (mediumOf (a .kind) (a .table) .read (a .image .now)) (a .bam .now) (e .pre .1 .1)
+    ∙ chain-of-bad (linksUpTo (a .highest) disk1541) (mediumOf (a .kind) (rings (a .starts .now) (a .lengths .now)) .read (a .image .now)) (a .bam .now) (e .pre .1 .1)
     (sym (v .is-address .ensures) ∙ not-true _ (c .before .if1 .taken))
 
 array-write-marks : tie.Need-array-write-marks
@@ -51,7 +52,7 @@ returns-2 c =
     let e = v .before .before .before .before in
     let a = e .args in
     let disk = linksUpTo (a .highest) disk1541 in
-    let read = mediumOf (a .kind) (a .table) .read (a .image .now) in
+    let read = mediumOf (a .kind) (rings (a .starts .now) (a .lengths .now)) .read (a .image .now) in
     c .follow .ensures
     ∙ ap (λ (p : ℕ). chainAt disk read (set (noMarks (disk .marks)) p true) 0 (getD (a .bam .now) 0 0) (getD (a .bam .now) 1 0))
     (m .mark-place .ensures)

@@ -2,6 +2,7 @@ use Rattle.reclaim_directory.proofs.ChainSteps.{unmarked-le, chain-end,
 use Rattle.reclaim_directory.proofs.MarkLaws.{unmarked-set, address-facts}
 use borrow.Author.Tests.{not-true, not-false}
 use Rattle.geometry.proofs.ZoneLaws.{sectors-of}
+use Rattle.image_rings.specs.Rings.{rings}
 use Rattle.image_sector.specs.Media.{mediumOf}
 use Rattle.reclaim_directory.specs.Chains.{chainAt}
 use Rattle.reclaim_directory.specs.Marks.{markPlace, unmarked}
@@ -16,13 +17,13 @@ use Rattle.reclaim_directory.proofs.follow.Statement.{statement}
 use Rattle.reclaim_directory.proofs.follow.Tie as tie
 
 abbrev Inv-loop : tie.InvT-loop
-Inv-loop image kind table highest first-track first-sector marks₀ n₀ track₀ sector₀ marks n track sector =
+Inv-loop image kind starts lengths highest first-track first-sector marks₀ n₀ track₀ sector₀ marks n track sector =
     (length marks ≡ 882) × (n + unmarked marks ≡ unmarked marks₀) × (unmarked marks₀ ≤ 882)
-    × (chainAt (linksUpTo highest disk1541) (mediumOf kind table .read image) marks n track sector
-    ≡ chainAt (linksUpTo highest disk1541) (mediumOf kind table .read image) marks₀ 0 track₀ sector₀)
+    × (chainAt (linksUpTo highest disk1541) (mediumOf kind (rings starts lengths) .read image) marks n track sector
+    ≡ chainAt (linksUpTo highest disk1541) (mediumOf kind (rings starts lengths) .read image) marks₀ 0 track₀ sector₀)
 
 abbrev μ-loop : tie.MeasureT-loop
-μ-loop image kind table highest first-track first-sector marks₀ n₀ track₀ sector₀ marks n track sector = unmarked marks
+μ-loop image kind starts lengths highest first-track first-sector marks₀ n₀ track₀ sector₀ marks n track sector = unmarked marks
 
 loop-holds : tie.Need-loop-holds Inv-loop μ-loop
 loop-holds c =
@@ -41,7 +42,7 @@ returns c =
     let l = v .before .before in
     let a = l .before .before .args in
     c .broken-chain .ensures
-    ∙ chain-invalid (linksUpTo (a .highest) disk1541) (mediumOf (a .kind) (a .table) .read (a .image .now)) (l .loop .marks) (l .loop .n)
+    ∙ chain-invalid (linksUpTo (a .highest) disk1541) (mediumOf (a .kind) (rings (a .starts .now) (a .lengths .now)) .read (a .image .now)) (l .loop .marks) (l .loop .n)
     (l .loop .track) (l .loop .sector) (v .before .loop-test .taken)
     (sym (v .is-address .ensures) ∙ not-true _ (c .before .if1 .taken))
     ∙ l .loop .inv .3
@@ -88,7 +89,7 @@ returns-2 c =
     let l = v .before .before in
     let a = l .before .before .args in
     c .broken-chain2 .ensures
-    ∙ chain-marked (linksUpTo (a .highest) disk1541) (mediumOf (a .kind) (a .table) .read (a .image .now)) (l .loop .marks) (l .loop .n)
+    ∙ chain-marked (linksUpTo (a .highest) disk1541) (mediumOf (a .kind) (rings (a .starts .now) (a .lengths .now)) .read (a .image .now)) (l .loop .marks) (l .loop .n)
     (l .loop .track) (l .loop .sector) (v .before .loop-test .taken)
     (valid (p .before)) (p .mark-place .result) (p .mark-place .ensures) (c .before .if2 .taken)
     ∙ l .loop .inv .3
@@ -113,7 +114,7 @@ returns-3 c =
     let l = v .before .before in
     let a = l .before .before .args in
     c .broken-chain3 .ensures
-    ∙ chain-unread (linksUpTo (a .highest) disk1541) (mediumOf (a .kind) (a .table) .read (a .image .now)) (l .loop .marks) (l .loop .n)
+    ∙ chain-unread (linksUpTo (a .highest) disk1541) (mediumOf (a .kind) (rings (a .starts .now) (a .lengths .now)) .read (a .image .now)) (l .loop .marks) (l .loop .n)
     (l .loop .track) (l .loop .sector) (v .before .loop-test .taken)
     (valid (p .before)) (p .mark-place .result) (p .mark-place .ensures) (r .read-sector .result) (r .read-sector .ensures)
     (r .before .if2 .left) (not-true _ (c .before .if3 .taken))
@@ -142,7 +143,7 @@ loop-again c =
       simp length-set (l .loop .inv .0),
       omega arith,
       l .loop .inv .2,
-      sym (chain-next (linksUpTo (a .highest) disk1541) (mediumOf (a .kind) (a .table) .read (a .image .now)) (l .loop .marks) (l .loop .n)
+      sym (chain-next (linksUpTo (a .highest) disk1541) (mediumOf (a .kind) (rings (a .starts .now) (a .lengths .now)) .read (a .image .now)) (l .loop .marks) (l .loop .n)
           (l .loop .track) (l .loop .sector) (v .before .loop-test .taken)
           (valid (p .before)) (p .mark-place .result) (p .mark-place .ensures) (r .read-sector .result) (r .read-sector .ensures)
           (r .before .if2 .left) (omega (arith, place p)) (not-false _ (c .before .before .if3 .left)))
@@ -153,7 +154,7 @@ returns-4 : tie.Need-returns-4 Inv-loop μ-loop
 returns-4 c =
     let l = c .before in
     let a = l .before .before .args in
-    chain-end (linksUpTo (a .highest) disk1541) (mediumOf (a .kind) (a .table) .read (a .image .now)) (l .loop .marks) (l .loop .n)
+    chain-end (linksUpTo (a .highest) disk1541) (mediumOf (a .kind) (rings (a .starts .now) (a .lengths .now)) .read (a .image .now)) (l .loop .marks) (l .loop .n)
     (l .loop .track) (l .loop .sector) (c .loop-test .left) ∙ l .loop .inv .3
 
 pub follow-spec : {M : Type 1} → statement M

@@ -1,46 +1,71 @@
 use mathlib.Core.Path.{_∙_}
 use borrow.Author.Tests.{not-true, not-false}
-use Rattle.scan_visit.proofs.Copied.{read-bytes, read-illegal}
-use Rattle.scan_visit.proofs.BlockTests.{block-bytes, block-illegal}
+use Rattle.scan_visit.proofs.WholeBlock.{judged-illegal, judged-mark, judged-sum, judged-good}
 use borrow.Author.Needs.{needs}
 use Rattle.scan_visit.proofs.block_at.Statement.{statement}
 use Rattle.scan_visit.proofs.block_at.Tie as tie
+use Rattle.scan_visit.proofs.block_at.Reads as reads
+use Rattle.scan_visit.proofs.block_at.Lts as lts
+use Rattle.scan_visit.proofs.read_block.Reads as read-block-reads
+use Rattle.scan_visit.proofs.wiped.Reads as wiped-reads
 
-slice-aggregate-decode-copy : tie.Need-slice-aggregate-decode-copy
-slice-aggregate-decode-copy c = search needs
+read-block-requires : tie.Need-read-block-requires
+read-block-requires c κs = search needs
 
-slice-aggregate-decode-copy-2 : tie.Need-slice-aggregate-decode-copy-2
-slice-aggregate-decode-copy-2 c = search needs
-
-decode-copy-requires : tie.Need-decode-copy-requires
-decode-copy-requires c κs = search needs
-
-without-payload-requires : tie.Need-without-payload-requires
-without-payload-requires c κs = search needs
+wiped-requires : tie.Need-wiped-requires
+wiped-requires c κs = search needs
 
 returns : tie.Need-returns
-returns c = c .without-payload .ensures ∙ block-illegal _ _ _ (read-illegal (c .before .before .before .before .decode-copy .ensures)
-    (not-true _ (c .before .if1 .taken)) .1)
+returns c =
+    let d = c .before .before in
+    let q = d .before .before in
+    let s = q .before .before .before in
+    c .wiped .ensures ∙ judged-illegal _ _ _ (s .pre .1 .1) _ _ (q .read-block .ensures) (not-true _ (d .if1 .taken))
 
-slice-aggregate-checked-block : tie.Need-slice-aggregate-checked-block
-slice-aggregate-checked-block c = search needs
+array-read-if2 : tie.Need-array-read-if2
+array-read-if2 c = search needs
 
-checked-block-requires : tie.Need-checked-block-requires
-checked-block-requires c κs = search needs
+wiped-requires-2 : tie.Need-wiped-requires-2
+wiped-requires-2 c κs = search needs
 
 returns-2 : tie.Need-returns-2
-returns-2 c = c .checked-block .ensures ∙ block-bytes _ _ _ (read-bytes (c .before .before .before .before .before .decode-copy .ensures)
-    (not-false _ (c .before .before .if1 .left)))
+returns-2 c =
+    let d = c .before .before .before in
+    let q = d .before .before in
+    let s = q .before .before .before in
+    c .wiped2 .ensures
+    ∙ judged-mark _ _ _ (s .pre .1 .1) _ _ (q .read-block .ensures) (not-false _ (d .if1 .left)) (c .before .before .if2 .taken)
+
+wiped-requires-3 : tie.Need-wiped-requires-3
+wiped-requires-3 c κs = search needs
+
+returns-3 : tie.Need-returns-3
+returns-3 c =
+    let e = c .before .before .before .before in
+    let d = e .before in
+    let q = d .before .before in
+    let s = q .before .before .before in
+    c .wiped3 .ensures
+    ∙ judged-sum _ _ _ (s .pre .1 .1) _ _ (q .read-block .ensures) (not-false _ (d .if1 .left)) (e .if2 .left) (c .before .before .if3 .taken)
+
+returns-4 : tie.Need-returns-4
+returns-4 c =
+    let e = c .before .before in
+    let d = e .before in
+    let q = d .before .before in
+    let s = q .before .before .before in
+    judged-good _ _ _ (s .pre .1 .1) _ _ (q .read-block .ensures) (not-false _ (d .if1 .left)) (e .if2 .left) (c .if3 .left)
 
 pub block-at-spec : {M : Type 1} → statement M
 block-at-spec =
     tie.close
     (tie.spec
-    slice-aggregate-decode-copy
-    slice-aggregate-decode-copy-2
-    decode-copy-requires
-    without-payload-requires
+    read-block-requires
+    wiped-requires
     returns
-    slice-aggregate-checked-block
-    checked-block-requires
-    returns-2)
+    array-read-if2
+    wiped-requires-2
+    returns-2
+    wiped-requires-3
+    returns-3
+    returns-4)

@@ -1,72 +1,101 @@
-use Prim.Native.Nat.{_-_, _*_}
+use Prim.Native.Nat.{_+_, _-_, _*_}
+use mathlib.Core.Path.{_≡_, refl, sym, subst, _∙_}
 use native.Mathlib.Omega.{arith}
-use borrow.Author.Needs.{needs}
 use borrow.Author.Tests.{not-true, not-false}
 use lib.ListN.{length}
 use Rattle.ring.specs.Bit.{bits, bitAt}
+use Rattle.scan.specs.Scan.{aRecord}
+use Rattle.scan.specs.Answers.{nextWith}
 use Rattle.scan.proofs.NextLaws.{NextIs, next-some, next-none}
+use Rattle.sector.specs.Inside.{Copies, search}
 use Rattle.sector.proofs.CopiesLaws.{Searching, search-starts, search-ends, search-room, search-goes-on}
 use Rattle.sector.proofs.find_copies.Statement.{statement}
 use Rattle.sector.proofs.find_copies.Tie as tie
+use Rattle.sector.proofs.find_copies.Reads as reads
+use Rattle.sector.proofs.find_copies.Lts as lts
+use Rattle.scan.proofs.next_into.Reads as next-into-reads
+use Rattle.sector.proofs.with_record.Reads as with-record-reads
 
 abbrev Inv-loop : tie.InvT-loop
-Inv-loop ring track sector end seen₀ bit₀ seen bit = Searching ring track sector seen bit
+Inv-loop ring track sector payload₀ places₀ end bytes₀ seen₀ bit₀ payload places bytes seen bit =
+    (length places ≡ length places₀) × Searching payload₀ places₀ ring track sector (search seen payload places) bit
 
 abbrev μ-loop : tie.MeasureT-loop
-μ-loop ring track sector end seen₀ bit₀ seen bit = 8 * length ring - bit
+μ-loop ring track sector payload₀ places₀ end bytes₀ seen₀ bit₀ payload places bytes seen bit = 8 * length ring - bit
 
 mul-end : tie.Need-mul-end Inv-loop μ-loop
-mul-end c = search needs
-
-no-copies-requires : tie.Need-no-copies-requires Inv-loop μ-loop
-no-copies-requires c κs = search needs
+mul-end c =
+    let p = c .before .before .pre in omega (arith, p .small)
 
 loop-holds : tie.Need-loop-holds Inv-loop μ-loop
-loop-holds c = let a = c .before .before .args in rw (c .no-copies .ensures) (search-starts (a .ring .now) (a .track) (a .sector))
+loop-holds c =
+    let a = c .before .before .args in (refl, search-starts (a .payload .now) (a .places .now) (a .ring .now) (a .track) (a .sector))
 
-next-record-requires : tie.Need-next-record-requires Inv-loop μ-loop
-next-record-requires c κs = let p = c .before .before .before .pre in (p, omega (arith, p .small))
+next-into-requires : tie.Need-next-into-requires Inv-loop μ-loop
+next-into-requires c κs =
+    let p = c .before .before .before .before .pre in (p, omega (arith, p .small))
+
+same-length : tie.Need-same-length Inv-loop μ-loop
+same-length c =
+    c .before .before .before .before .loop .inv .0
 
 returns : tie.Need-returns Inv-loop μ-loop
 returns c =
     let n = c .before .before in
-    let l = n .before in
+    let l = n .before .before in
     let a = l .before .before .before .args in
-    search-ends (a .ring .now) (a .track) (a .sector) (l .loop .seen) (l .loop .bit) (l .loop .inv)
-    (next-none _ _ _ _ (n .next-record .result) (n .next-record .ensures .0) (not-true _ (c .if1 .taken)))
+    search-ends (a .payload .now) (a .places .now) (a .ring .now) (a .track) (a .sector) _ (l .loop .bit) (l .loop .inv .1)
+    (next-none _ _ _ _ (nextWith (n .next-into .result) (n .next-into .last .1 .1 .1 .1 .0)) (n .next-into .ensures .0)
+    (not-true _ (c .if1 .taken)))
 
 -- the record at hand
 is-next : (c : tie.After-struct-known2 Inv-loop μ-loop)
-    → NextIs (bitAt (c .before .before .before .before .before .before .before .before .args .ring .now))
-    (c .before .before .before .before .before .before .before .before .args .track)
-    (bits (c .before .before .before .before .before .before .before .before .args .ring .now))
-    (c .before .before .before .before .before .loop .bit) (c .before .before .before .before .next-record .result .row)
+    → let n = c .before .before .before in
+    let l = n .before .before in
+    let a = l .before .before .before .args in
+    NextIs (bitAt (a .ring .now)) (a .track) (bits (a .ring .now)) (l .loop .bit)
+    (aRecord (n .next-into .result .sector) (n .next-into .result .place) (n .next-into .last .1 .1 .1 .1 .0))
 is-next c =
-    let e = c .before .before in
+    let e = c .before in
     let n = e .before .before in
-    next-some _ _ _ _ (n .next-record .result) (n .next-record .ensures .0) (not-false _ (e .if1 .left))
+    next-some _ _ _ _ (nextWith (n .next-into .result) (n .next-into .last .1 .1 .1 .1 .0)) (n .next-into .ensures .0)
+    (not-false _ (e .if1 .left))
 
 add-bit : tie.Need-add-bit Inv-loop μ-loop
-add-bit c = omega (arith, c .before .before .before .before .next-record .ensures .1)
+add-bit c =
+    omega (arith, c .before .before .before .next-into .ensures .1)
 
 with-record-requires : tie.Need-with-record-requires Inv-loop μ-loop
 with-record-requires c κs =
-    let l = c .before .before .before .before .before in
+    let k = c .before .before .before in
+    let n = k .before .before .before in
+    let l = n .before .before in
     let s = l .before .before .before in
-    let a = s .args in
-    search-room (a .ring .now) (a .track) (a .sector) (l .loop .seen) (l .loop .bit) (l .loop .inv) (s .pre .small) _ (is-next c)
+    let a = s .args in (
+      search-room (a .payload .now) (a .places .now) (a .ring .now) (a .track) (a .sector) _ (l .loop .bit) (l .loop .inv .1)
+          (s .pre .small) _ (is-next k),
+      n .next-into .ensures .1,
+    )
 
 loop-less : tie.Need-loop-less Inv-loop μ-loop
-loop-less c = let i = is-next (c .before) in omega (arith, i .below, i .far)
+loop-less c =
+    let i = is-next (c .before .before .before .before .before .before) in
+    omega (arith, i .below, i .far)
 
 loop-again : tie.Need-loop-again Inv-loop μ-loop
 loop-again c =
-    let l = c .before .before .before .before .before .before in
+    let w = c .before .before in
+    let k = w .before .before .before .before in
+    let n = k .before .before .before in
+    let l = n .before .before in
     let s = l .before .before .before in
-    let a = s .args in
-    rw (c .with-record .ensures)
-    (search-goes-on (a .ring .now) (a .track) (a .sector) (l .loop .seen) (l .loop .bit) (l .loop .inv)
-    (s .pre .small) _ (is-next (c .before)))
+    let a = s .args in (
+      w .with-record .kept .1 .1 .1 .1 .1 .0 ∙ l .loop .inv .0,
+      subst (λ (y : Copies). Searching (a .payload .now) (a .places .now) (a .ring .now) (a .track) (a .sector) y
+          (n .next-into .result .place + 2600)) (sym (w .with-record .ensures))
+          (search-goes-on (a .payload .now) (a .places .now) (a .ring .now) (a .track) (a .sector) _ (l .loop .bit) (l .loop .inv .1)
+          (s .pre .small) _ (is-next k)),
+    )
 
 pub find-copies-spec : {M : Type 1} → statement M
 find-copies-spec =
@@ -75,9 +104,9 @@ find-copies-spec =
     Inv-loop
     μ-loop
     mul-end
-    no-copies-requires
     loop-holds
-    next-record-requires
+    next-into-requires
+    same-length
     returns
     add-bit
     with-record-requires

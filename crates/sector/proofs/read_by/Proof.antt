@@ -1,12 +1,21 @@
-use mathlib.Core.Path.{sym, _∙_}
+use mathlib.Core.Path.{sym, ap, _∙_}
+use Rattle.base.specs.Sectors.{good}
 use Rattle.ring.specs.Bit.{IsRing}
 use Rattle.ring.proofs.RingRefusals.{is-ring}
 use Rattle.sector.specs.Rules.{ruleOf}
+use Rattle.sector.specs.Inside.{Copies, refusalBy}
 use Rattle.sector.proofs.SectorLaws.{no-ring}
-use Rattle.sector.proofs.RuleLaws.{decided-read}
+use Rattle.sector.proofs.RuleLaws.{read-refused, read-good}
 use borrow.Author.Needs.{needs}
 use Rattle.sector.proofs.read_by.Statement.{statement}
 use Rattle.sector.proofs.read_by.Tie as tie
+use Rattle.sector.proofs.read_by.Reads as reads
+use Rattle.sector.proofs.read_by.Lts as lts
+use Rattle.base.proofs.good_sector.Reads as good-sector-reads
+use Rattle.base.proofs.refused_sector.Reads as refused-sector-reads
+use Rattle.ring.proofs.refusal_of.Reads as refusal-of-reads
+use Rattle.sector.proofs.find_copies.Reads as find-copies-reads
+use Rattle.sector.proofs.refusal_by.Reads as refusal-by-reads
 
 refusal-of-requires : tie.Need-refusal-of-requires
 refusal-of-requires c κs = search needs
@@ -25,19 +34,41 @@ returns c =
 rings : (e : tie.Else1) → IsRing (e .before .before .before .args .ring .now)
 rings e = is-ring _ (sym (e .before .refusal-of .ensures) ∙ e .if1 .left)
 
-find-copies-requires : tie.Need-find-copies-requires
-find-copies-requires c κs = rings c
+slice-aggregate-find-copies : tie.Need-slice-aggregate-find-copies
+slice-aggregate-find-copies c = search needs
 
-decide-requires : tie.Need-decide-requires
-decide-requires c κs = search needs
+find-copies-requires : tie.Need-find-copies-requires
+find-copies-requires c κs =
+    rings (c .before .before)
+
+refusal-by-requires : tie.Need-refusal-by-requires
+refusal-by-requires c κs = search needs
+
+refused-sector-requires-2 : tie.Need-refused-sector-requires-2
+refused-sector-requires-2 c κs = search needs
 
 returns-2 : tie.Need-returns-2
 returns-2 c =
-    let f = c .before in
-    let e = f .before in
+    let r = c .before .before in
+    let f = r .before .before in
+    let e = f .before .before .before in
     let a = e .before .before .before .args in
-    c .decide .ensures
-    ∙ decided-read (a .ring .now) (a .track) (a .sector) (rings e) (f .find-copies .result) (f .find-copies .ensures) (a .rule)
+    c .refused-sector2 .ensures
+    ∙ read-refused (a .ring .now) (a .track) (a .sector) (rings e) (a .rule) _
+    (r .refusal-by .ensures ∙ ap (λ (y : Copies). refusalBy (a .rule) (y .tally)) (f .find-copies .ensures)) (c .before .if2 .taken)
+
+good-sector-requires : tie.Need-good-sector-requires
+good-sector-requires c κs = search needs
+
+returns-3 : tie.Need-returns-3
+returns-3 c =
+    let r = c .before .before in
+    let f = r .before .before in
+    let e = f .before .before .before in
+    let a = e .before .before .before .args in
+    c .good-sector .ensures ∙ ap (λ (y : Copies). good (y .payload)) (f .find-copies .ensures)
+    ∙ read-good (a .ring .now) (a .track) (a .sector) (rings e) (a .rule) _
+    (r .refusal-by .ensures ∙ ap (λ (y : Copies). refusalBy (a .rule) (y .tally)) (f .find-copies .ensures)) _ (c .before .if2 .left)
 
 pub read-by-spec : {M : Type 1} → statement M
 read-by-spec =
@@ -46,6 +77,10 @@ read-by-spec =
     refusal-of-requires
     refused-sector-requires
     returns
+    slice-aggregate-find-copies
     find-copies-requires
-    decide-requires
-    returns-2)
+    refusal-by-requires
+    refused-sector-requires-2
+    returns-2
+    good-sector-requires
+    returns-3)

@@ -25,6 +25,13 @@ mul-place c = omega arith
 shared-slice-read-place : tie.Need-shared-slice-read-place Inv-loop μ-loop
 shared-slice-read-place c = let s = c .before .before .before .before .before in omega (arith, s .pre .1 .fits)
 
+cast-place : tie.Need-cast-place Inv-loop μ-loop
+cast-place c =
+    let i = c .before in
+    let l = i .before in
+    let s = l .before .before .before in
+    omega (arith, s .pre .1 .small (l .loop .i) (i .loop-test .taken))
+
 write-circular-bytes-requires : tie.Need-write-circular-bytes-requires Inv-loop μ-loop
 write-circular-bytes-requires c κs =
     let i = c .before .before in
@@ -75,6 +82,7 @@ write-at-spec =
     loop-holds
     mul-place
     shared-slice-read-place
+    cast-place
     write-circular-bytes-requires
     add-i
     loop-less
