@@ -32,7 +32,8 @@ use Rattle.sector.specs.declared.Places.{Places}
 use Rattle.sector.specs.Rules.{recordsIn, recordsFor, allLike, unique, consistent, ruleOf, readBy}
 use Rattle.base.specs.Sectors.{good, refused}
 use Rattle.sector.specs.Replacing.{dataBlock, writtenAt, placesIn, replacedBy, answerOf}
-use Rattle.sector.specs.Inside.{Copies, search, firstPayload, tallyOf, placesOf, copiesOf, isAmbiguous, refusalBy, PlacesFound, SmallPlaces}
+use Rattle.sector.specs.Inside.{Copies, search, firstPayload, tallyOf, placesOf, copiesOf}
+use Rattle.sector.specs.Inside.{isAmbiguous, refusalBy, PlacesFound, SmallPlaces}
 use Rattle.sector.proofs.SectorLaws.{read-scanned}
 use Rattle.sector.proofs.CopiesLaws.{whole, few-for}
 
@@ -50,7 +51,8 @@ decided-by Unique lent (r ∷ q ∷ l) = rw (some-not-none (suc (length l)), lt-
 decided-by Consistent lent [] = refl
 decided-by Consistent lent (r ∷ l) = rw (some-not-none (length l)) (by (allLike (r .payload) l))
   where
-    by : (b : Bool) → unless (refusal (ambiguous when not b ∷ [])) refused (good (r .payload)) ≡ pick b (good (r .payload)) (refused ambiguous)
+    by : (b : Bool)
+        → unless (refusal (ambiguous when not b ∷ [])) refused (good (r .payload)) ≡ pick b (good (r .payload)) (refused ambiguous)
     by true = refl
     by false = refl
 

@@ -26,7 +26,9 @@ element-copy-out-start : tie.Need-element-copy-out-start
 element-copy-out-start c = search needs
 
 returns-2 : tie.Need-returns-2
-returns-2 c = let a = c .before .before .before .args in ring-here (rings (a .starts .now) (a .lengths .now)) (a .track) (c .before .if1 .left)
+returns-2 c =
+    let a = c .before .before .before .args in
+    ring-here (rings (a .starts .now) (a .lengths .now)) (a .track) (c .before .if1 .left)
 
 pub ring-place-spec : {M : Type 1} → statement M
 ring-place-spec =

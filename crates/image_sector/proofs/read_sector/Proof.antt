@@ -14,7 +14,8 @@ ring-place-requires c κs = search needs
 read-here-requires : tie.Need-read-here-requires
 read-here-requires c κs =
     let s = c .before .before in
-    in-place (rings (s .args .starts .now) (s .args .lengths .now)) (s .args .track) (s .args .kind) (length (s .args .image .now)) (s .pre .1) (c .ring-place .result)
+    in-place (rings (s .args .starts .now) (s .args .lengths .now)) (s .args .track) (s .args .kind)
+    (length (s .args .image .now)) (s .pre .1) (c .ring-place .result)
     (c .ring-place .ensures)
 
 returns : tie.Need-returns

@@ -18,7 +18,8 @@ returns : tie.Need-returns
 returns c =
     let r = c .before .before in
     let a = r .before .before .before .args in
-    no-bam (mediumOf (a .kind) (rings (a .starts .now) (a .lengths .now))) (a .highest) (a .image .now) (r .read-sector .result) (r .read-sector .ensures)
+    no-bam (mediumOf (a .kind) (rings (a .starts .now) (a .lengths .now))) (a .highest) (a .image .now)
+    (r .read-sector .result) (r .read-sector .ensures)
     (not-true _ (c .if1 .taken))
 
 directory-chain-requires : tie.Need-directory-chain-requires
@@ -36,7 +37,8 @@ returns-2 c =
     let e = p .before .before .before .before in
     let r = e .before .before in
     let a = r .before .before .before .args in
-    no-chain (mediumOf (a .kind) (rings (a .starts .now) (a .lengths .now))) (a .highest) (a .image .now) (r .read-sector .result) (r .read-sector .ensures)
+    no-chain (mediumOf (a .kind) (rings (a .starts .now) (a .lengths .now))) (a .highest) (a .image .now)
+    (r .read-sector .result) (r .read-sector .ensures)
     (not-false _ (e .if1 .left)) (p .directory-chain .result) (p .directory-chain .ensures) (not-true _ (c .if2 .taken))
 
 clear-tracks-requires : tie.Need-clear-tracks-requires
@@ -53,7 +55,8 @@ returns-3 c =
     let e = p .before .before .before .before in
     let r = e .before .before in
     let a = r .before .before .before .args in
-    all-cleared (mediumOf (a .kind) (rings (a .starts .now) (a .lengths .now))) (a .highest) (a .image .now) (r .read-sector .result) (r .read-sector .ensures)
+    all-cleared (mediumOf (a .kind) (rings (a .starts .now) (a .lengths .now))) (a .highest) (a .image .now)
+    (r .read-sector .result) (r .read-sector .ensures)
     (not-false _ (e .if1 .left)) (p .directory-chain .result) (p .directory-chain .ensures) (not-false _ (f .if2 .left))
     (k .clear-tracks .last .0) (k .clear-tracks .result) (k .clear-tracks .ensures)
 

@@ -32,7 +32,8 @@ returns c =
     let e = v .before .before .before .before in
     let a = e .args in
     c .broken-chain .ensures
-    ∙ chain-of-bad (linksUpTo (a .highest) disk1541) (mediumOf (a .kind) (rings (a .starts .now) (a .lengths .now)) .read (a .image .now)) (a .bam .now) (e .pre .1 .1)
+    ∙ chain-of-bad (linksUpTo (a .highest) disk1541) (mediumOf (a .kind) (rings (a .starts .now) (a .lengths .now)) .read (a .image .now))
+    (a .bam .now) (e .pre .1 .1)
     (sym (v .is-address .ensures) ∙ not-true _ (c .before .if1 .taken))
 
 array-write-marks : tie.Need-array-write-marks

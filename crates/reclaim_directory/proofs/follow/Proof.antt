@@ -42,7 +42,8 @@ returns c =
     let l = v .before .before in
     let a = l .before .before .args in
     c .broken-chain .ensures
-    ∙ chain-invalid (linksUpTo (a .highest) disk1541) (mediumOf (a .kind) (rings (a .starts .now) (a .lengths .now)) .read (a .image .now)) (l .loop .marks) (l .loop .n)
+    ∙ chain-invalid (linksUpTo (a .highest) disk1541) (mediumOf (a .kind) (rings (a .starts .now) (a .lengths .now)) .read (a .image .now))
+    (l .loop .marks) (l .loop .n)
     (l .loop .track) (l .loop .sector) (v .before .loop-test .taken)
     (sym (v .is-address .ensures) ∙ not-true _ (c .before .if1 .taken))
     ∙ l .loop .inv .3
@@ -89,7 +90,8 @@ returns-2 c =
     let l = v .before .before in
     let a = l .before .before .args in
     c .broken-chain2 .ensures
-    ∙ chain-marked (linksUpTo (a .highest) disk1541) (mediumOf (a .kind) (rings (a .starts .now) (a .lengths .now)) .read (a .image .now)) (l .loop .marks) (l .loop .n)
+    ∙ chain-marked (linksUpTo (a .highest) disk1541) (mediumOf (a .kind) (rings (a .starts .now) (a .lengths .now)) .read (a .image .now))
+    (l .loop .marks) (l .loop .n)
     (l .loop .track) (l .loop .sector) (v .before .loop-test .taken)
     (valid (p .before)) (p .mark-place .result) (p .mark-place .ensures) (c .before .if2 .taken)
     ∙ l .loop .inv .3
@@ -114,7 +116,8 @@ returns-3 c =
     let l = v .before .before in
     let a = l .before .before .args in
     c .broken-chain3 .ensures
-    ∙ chain-unread (linksUpTo (a .highest) disk1541) (mediumOf (a .kind) (rings (a .starts .now) (a .lengths .now)) .read (a .image .now)) (l .loop .marks) (l .loop .n)
+    ∙ chain-unread (linksUpTo (a .highest) disk1541) (mediumOf (a .kind) (rings (a .starts .now) (a .lengths .now)) .read (a .image .now))
+    (l .loop .marks) (l .loop .n)
     (l .loop .track) (l .loop .sector) (v .before .loop-test .taken)
     (valid (p .before)) (p .mark-place .result) (p .mark-place .ensures) (r .read-sector .result) (r .read-sector .ensures)
     (r .before .if2 .left) (not-true _ (c .before .if3 .taken))
@@ -143,7 +146,9 @@ loop-again c =
       simp length-set (l .loop .inv .0),
       omega arith,
       l .loop .inv .2,
-      sym (chain-next (linksUpTo (a .highest) disk1541) (mediumOf (a .kind) (rings (a .starts .now) (a .lengths .now)) .read (a .image .now)) (l .loop .marks) (l .loop .n)
+      sym (chain-next (linksUpTo (a .highest) disk1541)
+          (mediumOf (a .kind) (rings (a .starts .now) (a .lengths .now)) .read (a .image .now))
+          (l .loop .marks) (l .loop .n)
           (l .loop .track) (l .loop .sector) (v .before .loop-test .taken)
           (valid (p .before)) (p .mark-place .result) (p .mark-place .ensures) (r .read-sector .result) (r .read-sector .ensures)
           (r .before .if2 .left) (omega (arith, place p)) (not-false _ (c .before .before .if3 .left)))
@@ -154,7 +159,8 @@ returns-4 : tie.Need-returns-4 Inv-loop μ-loop
 returns-4 c =
     let l = c .before in
     let a = l .before .before .args in
-    chain-end (linksUpTo (a .highest) disk1541) (mediumOf (a .kind) (rings (a .starts .now) (a .lengths .now)) .read (a .image .now)) (l .loop .marks) (l .loop .n)
+    chain-end (linksUpTo (a .highest) disk1541) (mediumOf (a .kind) (rings (a .starts .now) (a .lengths .now)) .read (a .image .now))
+    (l .loop .marks) (l .loop .n)
     (l .loop .track) (l .loop .sector) (c .loop-test .left) ∙ l .loop .inv .3
 
 pub follow-spec : {M : Type 1} → statement M

@@ -46,7 +46,8 @@ returns-3 c =
     let q = d .before .before in
     let s = q .before .before .before in
     c .wiped3 .ensures
-    ∙ judged-sum _ _ _ (s .pre .1 .1) _ _ (q .read-block .ensures) (not-false _ (d .if1 .left)) (e .if2 .left) (c .before .before .if3 .taken)
+    ∙ judged-sum _ _ _ (s .pre .1 .1) _ _ (q .read-block .ensures) (not-false _ (d .if1 .left)) (e .if2 .left)
+    (c .before .before .if3 .taken)
 
 returns-4 : tie.Need-returns-4
 returns-4 c =

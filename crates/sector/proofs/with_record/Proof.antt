@@ -11,7 +11,8 @@ use Rattle.sector.proofs.keep_place.Reads as keep-place-reads
 returns : tie.Need-returns
 returns c =
     let a = c .before .before .before .args in
-    step-other (a .sector) (a .seen) (a .payload .now) (a .places .now) (aRecord (a .row .sector) (a .row .place) (a .bytes .now)) (c .if1 .taken)
+    step-other (a .sector) (a .seen) (a .payload .now) (a .places .now) (aRecord (a .row .sector) (a .row .place) (a .bytes .now))
+    (c .if1 .taken)
 
 keep-place-requires : tie.Need-keep-place-requires
 keep-place-requires c κs = search needs
@@ -24,7 +25,8 @@ returns-2 c =
     let k = c .before .before .before .before in
     let e = k .before .before in
     let a = e .before .before .before .args in
-    step-first (a .sector) (a .seen) (a .payload .now) (a .places .now) (aRecord (a .row .sector) (a .row .place) (a .bytes .now)) (e .if1 .left) _ (k .keep-place .ensures)
+    step-first (a .sector) (a .seen) (a .payload .now) (a .places .now) (aRecord (a .row .sector) (a .row .place) (a .bytes .now))
+    (e .if1 .left) _ (k .keep-place .ensures)
     (c .before .if2 .taken)
 
 same-bytes-requires : tie.Need-same-bytes-requires
@@ -43,7 +45,8 @@ returns-3 c =
     let k = f .before .before .before in
     let e = k .before .before in
     let a = e .before .before .before .args in
-    step-later (a .sector) (a .seen) (a .payload .now) (a .places .now) (aRecord (a .row .sector) (a .row .place) (a .bytes .now)) (e .if1 .left) _ (k .keep-place .ensures)
+    step-later (a .sector) (a .seen) (a .payload .now) (a .places .now) (aRecord (a .row .sector) (a .row .place) (a .bytes .now))
+    (e .if1 .left) _ (k .keep-place .ensures)
     (f .if2 .left) (m .same-bytes .result) (m .same-bytes .ensures)
 
 pub with-record-spec : {M : Type 1} → statement M
