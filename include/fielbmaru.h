@@ -45,7 +45,7 @@ extern "C" {
 #endif
 
 /* The version of the library; the file VERSION has the same. */
-#define FIELBMARU_VERSION "0.11.0"
+#define FIELBMARU_VERSION "0.12.0"
 
 /* The refusal numbers. (tests/refusals holds them to the library's other lists.) */
 #define FIELBMARU_DONE            0
@@ -79,9 +79,14 @@ extern "C" {
 #define FIELBMARU_TRACK_BYTES(track) FIELBMARU_BY_ZONE(track, 7692, 7142, 6666, 6250)
 #define FIELBMARU_SECTORS(track)     FIELBMARU_BY_ZONE(track, 21, 19, 18, 17)
 
-/* What fielbmaru_decode_track says of a sector. */
-#define FIELBMARU_HANDED_OUT 1
-#define FIELBMARU_MISSING    2
+/* What fielbmaru_decode_track says of a sector: it was handed out, or why it is missing. They are the numbers of the error codes that
+   build such a sector (below), and none of them is a refusal. */
+#define FIELBMARU_HANDED_OUT   1
+#define FIELBMARU_NO_HEADER    2  /* no header of the sector was met */
+#define FIELBMARU_NO_SYNC      3  /* no sync was met on the whole ring; all sectors have it then */
+#define FIELBMARU_NO_DATA      4  /* a true header, and no data block behind it: no sync, an illegal symbol, another marker or header */
+#define FIELBMARU_FALSE_DATA   5  /* a true header, and a data block whose checksum is false */
+#define FIELBMARU_FALSE_HEADER 9  /* no true header, but one with this sector number whose checksum is false */
 
 /*
  * Builds a track: FIELBMARU_TRACK_BYTES(track) bytes at the front of `out`; what follows them in `out` is kept.
@@ -134,7 +139,8 @@ uint64_t fielbmaru_scan_records(const uint8_t *ring, size_t ring_len, uint8_t tr
  * Reads all sectors of a track, each by its first record.
  *
  * payloads  256 bytes for each sector, from sector 0 on; zeros where a sector is missing. Needs 256 * FIELBMARU_SECTORS(track) bytes.
- * statuses  a byte for each sector: FIELBMARU_HANDED_OUT or FIELBMARU_MISSING. Needs FIELBMARU_SECTORS(track) bytes.
+ * statuses  a byte for each sector: FIELBMARU_HANDED_OUT, or one of the five numbers above that say why it is missing; the first true
+ *           header of the sector that is met decides. Needs FIELBMARU_SECTORS(track) bytes.
  * found     how many sectors were handed out. Bytes behind the track's sectors are kept.
  *
  * Refused: NO_ROOM, RING_EMPTY, RING_TOO_LONG.

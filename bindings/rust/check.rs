@@ -24,12 +24,31 @@ fn sizes_of_every_track() {
         assert!(ring.iter().all(|&b| b == 0xAA));
         ring.push(0xAA);
         build_track(track, &[], &[], 1, 2, &mut ring).unwrap();
-        let (mut payloads, mut statuses) = (vec![1; 256 * sectors(track)], vec![0; sectors(track)]);
+        let (mut payloads, mut statuses) = (vec![1; 256 * sectors(track)], vec![Status::NoSync; sectors(track)]);
         assert_eq!(decode_track(&ring, track, 99, &mut payloads, &mut statuses), Ok(sectors(track)));
-        assert!(payloads.iter().all(|&b| b == 0) && statuses.iter().all(|&s| s == HANDED_OUT));
+        assert!(payloads.iter().all(|&b| b == 0) && statuses.iter().all(|&s| s == Status::HandedOut));
         assert_eq!(decode_track(&ring, track, 0, &mut payloads[1..], &mut statuses), Err(Refusal::NoRoom));
         assert_eq!(decode_track(&ring, track, 0, &mut payloads, &mut statuses[1..]), Err(Refusal::NoRoom));
     }
+}
+
+/// Each error code is read back as its status; 3 as 2, unless no sector has a sync.
+#[test]
+fn statuses_of_codes() {
+    use Status::*;
+    let (codes, told) = ([1, 2, 3, 4, 5, 9, 11], [HandedOut, NoHeader, NoHeader, NoData, FalseData, FalseHeader, HandedOut]);
+    let (mut ring, mut payloads, mut statuses) = ([0; 7142], [1; 256 * 19], [NoSync; 19]);
+    build_track(18, &[7; 256 * 19], &codes, 1, 2, &mut ring).unwrap();
+    assert_eq!(decode_track(&ring, 18, 777, &mut payloads, &mut statuses), Ok(19 - 5));
+    assert_eq!(statuses[..7], told);
+    assert!(statuses[7..].iter().all(|&s| s == HandedOut));
+    for (sector, payload) in payloads.chunks(256).enumerate() {
+        assert!(payload.iter().all(|&b| b == if statuses[sector] == HandedOut { 7 } else { 0 }));
+    }
+    assert_eq!(statuses[3..6].iter().map(|s| s.to_string()).collect::<Vec<_>>(), ["no data block", "data checksum", "header checksum"]);
+    build_track(18, &[], &[3; 19], 1, 2, &mut ring).unwrap();
+    assert_eq!(decode_track(&ring, 18, 777, &mut payloads, &mut statuses), Ok(0));
+    assert!(statuses.iter().all(|&s| s == NoSync));
 }
 
 #[test]

@@ -1,16 +1,16 @@
 //! A track is built, read, damaged and read again, and a NIB file is made of it.
 mod fielbmaru;
 
-use fielbmaru::{Refusal, HANDED_OUT, NIB_HEAD, WINDOW};
+use fielbmaru::{Refusal, Status, NIB_HEAD, WINDOW};
 
 const TRACK: u8 = 18;
 const SECTORS: usize = fielbmaru::sectors(TRACK);
 
-/// The missing sectors of a ring.
-fn missing(ring: &[u8]) -> Result<Vec<usize>, Refusal> {
-    let (mut payloads, mut statuses) = ([0; 256 * SECTORS], [0; SECTORS]);
+/// The missing sectors of a ring, and why they are missing.
+fn missing(ring: &[u8]) -> Result<Vec<(usize, Status)>, Refusal> {
+    let (mut payloads, mut statuses) = ([0; 256 * SECTORS], [Status::NoSync; SECTORS]);
     let found = fielbmaru::decode_track(ring, TRACK, 0, &mut payloads, &mut statuses)?;
-    let missing: Vec<usize> = (0..SECTORS).filter(|&s| statuses[s] != HANDED_OUT).collect();
+    let missing: Vec<_> = statuses.into_iter().enumerate().filter(|&(_, status)| status != Status::HandedOut).collect();
     println!("{found} of {SECTORS} sectors; missing: {missing:?}");
     Ok(missing)
 }
@@ -32,10 +32,10 @@ fn main() -> Result<(), Refusal> {
     println!("a NIB file of {size} bytes, whose ring has {} bytes; the same: {}", slot.ring.len(), slot.ring == &*ring);
 
     ring[1000..1400].fill(0);
-    for sector in missing(ring)? {
+    for (sector, status) in missing(ring)? {
         match fielbmaru::read_unique(ring, TRACK, sector as u8) {
             Ok(_) => println!("sector {sector} reads"),
-            Err(refusal) => println!("sector {sector}: {refusal}"),
+            Err(refusal) => println!("sector {sector}: {refusal}; {status}"),
         }
     }
     Ok(())

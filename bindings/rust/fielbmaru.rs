@@ -110,9 +110,36 @@ pub const WINDOW: usize = 8192;
 pub const NIB_HEAD: usize = 256;
 pub const SLOTS: usize = 84;
 
-/// The statuses of [`decode_track`].
-pub const HANDED_OUT: u8 = 1;
-pub const MISSING: u8 = 2;
+/// What [`decode_track`] says of a sector: it was handed out, or why it is missing. The numbers are the library's, which writes no others.
+#[derive(Clone, Copy, Debug, PartialEq, Eq, Hash)]
+#[repr(u8)]
+pub enum Status {
+    /// It was handed out.
+    HandedOut = 1,
+    /// No header of the sector was met.
+    NoHeader = 2,
+    /// No sync was met on the whole ring; all sectors have this status then.
+    NoSync = 3,
+    /// A true header, and no data block behind it: no sync, an illegal symbol, another marker or another header.
+    NoData = 4,
+    /// A true header, and a data block whose checksum is false.
+    FalseData = 5,
+    /// No true header, but one with this sector's number whose checksum is false.
+    FalseHeader = 9,
+}
+
+impl fmt::Display for Status {
+    fn fmt(&self, f: &mut fmt::Formatter<'_>) -> fmt::Result {
+        f.write_str(match self {
+            Status::HandedOut => "handed out",
+            Status::NoHeader => "no header",
+            Status::NoSync => "no sync",
+            Status::NoData => "no data block",
+            Status::FalseData => "data checksum",
+            Status::FalseHeader => "header checksum",
+        })
+    }
+}
 
 /// The bytes of a built track. (A published number, for sizing buffers; check.rs holds it against the library.)
 pub const fn track_bytes(track: u8) -> usize {
@@ -229,7 +256,8 @@ pub fn scan_records(ring: &[u8], track: u8, start_bit: u64, records: &mut [Recor
 
 /// Reads all sectors of a track, each by its first record, and returns how many were found.
 ///
-/// `payloads` gets 256 bytes a sector, zeros for a missing one; `statuses` gets [`HANDED_OUT`] or [`MISSING`] a sector.
+/// `payloads` gets 256 bytes a sector, zeros for a missing one; `statuses` gets a [`Status`] a sector. Whatever stands there before, a
+/// refusal keeps it, as it keeps all that is lent: [`Status::NoSync`] will do.
 ///
 /// Refused: `NoRoom` (less than 256 bytes, or one status, for each of [`sectors`]), `RingEmpty`, `RingTooLong`.
 pub fn decode_track(
@@ -237,9 +265,10 @@ pub fn decode_track(
     track: u8,
     start_bit: u64,
     payloads: &mut [u8],
-    statuses: &mut [u8],
+    statuses: &mut [Status],
 ) -> Result<usize, Refusal> {
     let mut found = 0;
+    // A status is a byte, and each number that is written is one of the six: it is proved that they are, by the contract of the function.
     done(unsafe {
         linked::fielbmaru_decode_track(
             ring.as_ptr(),
@@ -248,7 +277,7 @@ pub fn decode_track(
             start_bit,
             payloads.as_mut_ptr(),
             payloads.len(),
-            statuses.as_mut_ptr(),
+            statuses.as_mut_ptr().cast(),
             statuses.len(),
             &mut found,
         )

@@ -44,19 +44,16 @@ impl Asks for Lines {
         }
     }
 
-    // The status digits are those of docs/RULES.md: 1 where the original hands a sector out, 2 where it hands out none.
+    // The status digits are those of docs/RULES.md, by the model.
     fn read(&mut self, ring: &[u8], track: u8, start: u64) -> String {
         match asked::read(ring, track, start, true) {
-            Ok(sectors) => {
+            Ok(read) => {
                 let mut sum = Sum::new();
-                let mut found = 0;
-                let mut statuses = String::new();
-                for sector in sectors {
-                    found += u32::from(sector.is_some());
-                    statuses.push(if sector.is_some() { '1' } else { '2' });
+                for sector in &read.sectors {
                     sum.bytes(&sector.unwrap_or([0; 256]));
                 }
-                format!("found {found} status {statuses} sum {:08X}\n", sum.0)
+                let statuses: String = read.statuses.iter().map(u8::to_string).collect();
+                format!("found {} status {statuses} sum {:08X}\n", read.found(), sum.0)
             }
             Err(number) => format!("refused {number}\n"),
         }

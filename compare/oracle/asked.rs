@@ -1,6 +1,7 @@
 // What the original answers, as docs/RULES.md words it. The original has no refusal numbers: each number below is the
 // document's, chosen by a plain test, or by which of the original's own steps gave nothing.
 use crate::fdd1541::{gcr, nib, reclaim};
+use crate::statuses;
 
 pub const MAX_RING: usize = 65_535;
 pub const SLOTS: usize = 84;
@@ -46,12 +47,26 @@ pub fn scan(ring: &[u8], track: u8, start: u64, room: bool) -> Answer<Vec<gcr::R
     Ok(records)
 }
 
-pub fn read(ring: &[u8], track: u8, start: u64, room: bool) -> Answer<Vec<Option<[u8; 256]>>> {
+// A track as the original reads it, and the status of each sector, which is the document's (statuses.rs).
+pub struct Track {
+    pub sectors: Vec<Option<[u8; 256]>>,
+    pub statuses: Vec<u8>,
+}
+
+impl Track {
+    pub fn found(&self) -> usize {
+        self.sectors.iter().flatten().count()
+    }
+}
+
+pub fn read(ring: &[u8], track: u8, start: u64, room: bool) -> Answer<Track> {
     if !room {
         return Err(7);
     }
     tested(ring)?;
-    Ok(gcr::decode_track_from(ring, track, start as usize).expect("a ring that is not empty"))
+    let sectors = gcr::decode_track_from(ring, track, start as usize).expect("a ring that is not empty");
+    let statuses = statuses::of_track(ring, track, start, &sectors);
+    Ok(Track { sectors, statuses })
 }
 
 // Why a rule gives no sector: 11 where no record has that number, else 12.

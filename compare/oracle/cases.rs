@@ -113,6 +113,13 @@ impl Cases {
         self.put(Buffer::Source, at, &[byte]);
     }
 
+    // Its check byte becomes another.
+    pub fn change_block_sum(&mut self) {
+        self.put(Buffer::Source, BLOCK + 1, &[0]);
+        self.row('Q', &[BLOCK]);
+        self.put(Buffer::Source, BLOCK + 1, &[1]);
+    }
+
     pub fn block(&mut self, ring: Ring, bit: u64) {
         self.row('G', &[ring.at, ring.n, bit as u32, BLOCK, 260]);
     }

@@ -1,6 +1,7 @@
 // Scans and reads: built tracks from many bits, with each code, damaged; random rings; pieces put together; the limits.
 use crate::cases::{Buffer, Cases, Ring, ZONE_TRACKS};
 use crate::cases_slips;
+use crate::cases_status;
 
 fn starts(c: &mut Cases) {
     c.heading("built tracks from many bits");
@@ -209,4 +210,5 @@ pub fn all(c: &mut Cases) {
     header_for_data(c);
     refusals(c);
     cases_slips::all(c);
+    cases_status::all(c);
 }

@@ -2,7 +2,7 @@
 use crate::cases::{Buffer, Cases, Ring, ZONE_TRACKS};
 
 // A ring of gap bytes; their odd bits are ones, so that a run of ones that begins at an odd bit has no one before it.
-fn gaps(c: &mut Cases, bytes: u32) -> Ring {
+pub fn gaps(c: &mut Cases, bytes: u32) -> Ring {
     c.store(Buffer::Target, 0, bytes, 0x55);
     Ring::new(0, bytes)
 }

@@ -1,5 +1,6 @@
 // The lines of replay_dropouts: the original's built tracks, a stretch of each forced to zero with its own bit
-// writer, read with its own reader from many bits; and what became of each sector, sorted here.
+// writer, read with its own reader from many bits; and what became of each sector, sorted here. Statuses are the model's.
+use crate::asked;
 use crate::draw::{Bytes, Sum};
 use crate::fdd1541::gcr;
 
@@ -66,9 +67,12 @@ struct Counts {
 }
 
 impl Counts {
-    fn sector(&mut self, code: u8, hit: bool, read: Option<[u8; 256]>, payload: [u8; 256]) {
+    fn sector(&mut self, code: u8, hit: bool, status: u8, read: Option<[u8; 256]>, payload: [u8; 256]) {
         let spoils = [2, 3, 4, 5, 9].contains(&code);
+        // a sector of these codes that the stretch left alone has its code for its status
+        let another = [4, 5, 9].contains(&code) && !hit && status != code;
         match read {
+            None if another => self.other += 1,
             None if spoils => self.spoiled += 1,
             None if hit => self.missing += 1,
             Some(bytes) if !spoils && bytes == payload && hit => self.own += 1,
@@ -91,11 +95,12 @@ fn lengths(bits: usize) -> [usize; 6] {
 
 fn read(track: &Track, place: usize, length: usize, start: usize, counts: &mut Counts, sum: &mut Sum) {
     let (ring, hit) = track.damaged(place, length);
-    let sectors = gcr::decode_track_from(&ring, track.number, start).expect("a ring");
+    let read = asked::read(&ring, track.number, start as u64, true).expect("a ring");
     counts.reads += 1;
     for (j, bits) in track.sectors.iter().enumerate() {
-        counts.sector(CODES[j], hit[bits.clone()].contains(&true), sectors[j], track.payloads[j]);
-        sum.byte(if sectors[j].is_some() { 1 } else { 2 });
+        let hit = hit[bits.clone()].contains(&true);
+        counts.sector(CODES[j], hit, read.statuses[j], read.sectors[j], track.payloads[j]);
+        sum.byte(read.statuses[j]);
     }
 }
 

@@ -51,6 +51,16 @@ pub mod gcr {
         write_circular_bytes(ring, bit, &code);
     }
 
+    // The place of a sync end among so many bits.
+    pub fn sync_end(ring: &[u8], from: usize, bits: usize) -> Option<usize> {
+        find_sync_end(ring, from, bits)
+    }
+
+    // Bytes read in the code from a bit of a ring, a multiple of four; none where a symbol is illegal.
+    pub fn read_code(ring: &[u8], bit: usize, bytes: usize) -> Option<Vec<u8>> {
+        decode_gcr_block(&read_circular_bytes(ring, bit, bytes / 4 * 5), bytes)
+    }
+
     pub fn set_bit(ring: &mut [u8], bit: usize, value: u8) {
         write_bit(ring, bit, value);
     }

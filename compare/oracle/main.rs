@@ -2,7 +2,7 @@
 //   oracle groups               the lines of replay_groups
 //   oracle dropouts             the lines of replay_dropouts
 //   oracle cases KIND [SEED [SCALE]]   rows that describe cases, for a program's standard input
-//   oracle answer               reads rows, writes the original's answers
+//   oracle answer               reads rows, writes the original's answers, with the statuses of the model
 // compare/README.md describes rows and answers.
 mod answers;
 mod asked;
@@ -16,12 +16,14 @@ mod cases_nib;
 mod cases_scan;
 mod cases_sector;
 mod cases_slips;
+mod cases_status;
 mod draw;
 mod dropouts;
 pub mod fdd1541;
 mod groups;
 mod machine;
 mod rows;
+mod statuses;
 
 use std::io::{self, Read, Write};
 

@@ -12,6 +12,7 @@ mod cases_nib;
 mod cases_scan;
 mod cases_sector;
 mod cases_slips;
+mod cases_status;
 mod craft;
 mod disks;
 mod draw;
@@ -24,6 +25,8 @@ mod machine;
 mod port;
 mod rows;
 mod small_rings;
+mod status_rings;
+mod statuses;
 mod stored;
 mod tally;
 mod tracks;
@@ -38,8 +41,16 @@ fn main() {
     let mut judge = Judge::new(seed);
     let mut choose = Chooser::new(seed);
     stored::all(&mut judge, seed, size);
-    let parts: [fn(&mut Judge, &mut Chooser, u64); 7] =
-        [building::all, small_rings::all, tracks::all, windows::all, files::all, disks::all, images::all];
+    let parts: [fn(&mut Judge, &mut Chooser, u64); 8] = [
+        building::all,
+        small_rings::all,
+        tracks::all,
+        windows::all,
+        files::all,
+        disks::all,
+        images::all,
+        status_rings::all,
+    ];
     for part in parts {
         part(&mut judge, &mut choose, size);
     }

@@ -121,7 +121,7 @@ pub fn rotated(ring: &[u8], by: u64) -> Vec<u8> {
     turned
 }
 
-fn flipped(c: &mut Chooser, ring: &mut [u8]) {
+pub fn flipped(c: &mut Chooser, ring: &mut [u8]) {
     let most = c.one_of(&[1, 2, 8, 40, 300]);
     for _ in 0..c.within(1, most) {
         let bit = c.below(8 * ring.len() as u64) as usize;

@@ -133,12 +133,13 @@ impl Judge {
         let mut found = self.numbers(1);
         let mut payloads = Lent::room(bytes, self.salt());
         let mut statuses = Lent::room(status_bytes, self.salt());
-        if let Ok(sectors) = &answer {
-            for (k, sector) in sectors.iter().enumerate() {
+        if let Ok(read) = &answer {
+            for (k, sector) in read.sectors.iter().enumerate() {
                 payloads.want()[256 * k..256 * k + 256].copy_from_slice(&sector.unwrap_or([0; 256]));
-                statuses.want()[k] = if sector.is_some() { 1 } else { 2 };
             }
-            found.want()[0] = sectors.iter().flatten().count() as u64;
+            statuses.want()[..n].copy_from_slice(&read.statuses);
+            found.want()[0] = read.found() as u64;
+            self.tally.statuses(&read.statuses);
         }
         let kept = ring.to_vec();
         let number = port::read(ring, track, start, payloads.given(), statuses.given(), &mut found.given()[0]);
@@ -149,7 +150,7 @@ impl Judge {
             let (want, ring, rooms) = (number_of(&answer), shown(ring), [bytes, status_bytes]);
             format!("track {track}, start {start}, ring {ring}, rooms {rooms:?}: {number} for {want}, {faults:?}")
         };
-        self.tell(Function::Read, verdict(&answer, same, |s| s.iter().flatten().count()), words, ring);
+        self.tell(Function::Read, verdict(&answer, same, asked::Track::found), words, ring);
     }
 
     pub fn sector(&mut self, ring: &[u8], track: u8, sector: u8, unique: bool) {

@@ -70,11 +70,24 @@ struct Counts {
 
 pub struct Tally {
     counts: Vec<Counts>,
+    // how many sectors of the tracks that were read have each status
+    statuses: [u64; 10],
+}
+
+// The numbers above 0 that were counted, and how often.
+fn each(counts: &[u64]) -> String {
+    let told: Vec<String> =
+        counts.iter().enumerate().skip(1).filter(|(_, &n)| n > 0).map(|(k, n)| format!("{k}: {n}")).collect();
+    if told.is_empty() {
+        "-".to_string()
+    } else {
+        told.join(", ")
+    }
 }
 
 impl Tally {
     pub fn new() -> Tally {
-        Tally { counts: vec![Counts::default(); NAMES.len()] }
+        Tally { counts: vec![Counts::default(); NAMES.len()], statuses: [0; 10] }
     }
 
     pub fn count(&mut self, function: Function, number: u64, alone: bool, things: usize) {
@@ -83,6 +96,12 @@ impl Tally {
         counts.numbers[number as usize] += 1;
         counts.alone += u64::from(alone);
         counts.things += things as u64;
+    }
+
+    pub fn statuses(&mut self, told: &[u8]) {
+        for &status in told {
+            self.statuses[usize::from(status)] += 1;
+        }
     }
 
     // The bytes of the first differing input are kept in a file.
@@ -103,9 +122,7 @@ impl Tally {
     // A line for each function.
     pub fn print(&self) {
         for ((name, things), c) in NAMES.iter().zip(THINGS).zip(&self.counts) {
-            let refused: Vec<String> =
-                (1..14).filter(|&k| c.numbers[k] > 0).map(|k| format!("{k}: {}", c.numbers[k])).collect();
-            let refused = if refused.is_empty() { "-".to_string() } else { refused.join(", ") };
+            let refused = each(&c.numbers);
             let done = format!("{} done, {} {things}", c.numbers[0], c.things);
             println!(
                 "{name}: {} inputs compared, {} differ; {done}; refused {refused}; ours alone {}",
@@ -115,6 +132,7 @@ impl Tally {
                 println!("    first: {}", c.first);
             }
         }
+        println!("statuses of the sectors of decode_track: {}", each(&self.statuses));
         println!("in all {} inputs compared, {} differ", self.total(|c| c.compared), self.differing());
     }
 

@@ -42,6 +42,26 @@ static void sizes(void)
     }
 }
 
+/* Each error code is read back as its status; 3 as 2, unless no sector has a sync. */
+static void statuses(void)
+{
+    static uint8_t ring[7142], payloads[256 * 19], told[20];
+    static const uint8_t codes[] = {1, 2, 3, 4, 5, 9, 11};
+    static const uint8_t expected[] = {FIELBMARU_HANDED_OUT, FIELBMARU_NO_HEADER,    FIELBMARU_NO_HEADER, FIELBMARU_NO_DATA,
+                                       FIELBMARU_FALSE_DATA, FIELBMARU_FALSE_HEADER, FIELBMARU_HANDED_OUT};
+    uint8_t bare[19];
+    uint64_t found = 99;
+    memset(told, 0xAA, sizeof told);
+    CHECK(fielbmaru_build_track(18, none, 0, codes, sizeof codes, 1, 2, ring, sizeof ring) == FIELBMARU_DONE);
+    CHECK(fielbmaru_decode_track(ring, sizeof ring, 18, 777, payloads, sizeof payloads, told, 20, &found) == FIELBMARU_DONE);
+    CHECK(found == 19 - 5 && memcmp(told, expected, sizeof expected) == 0 && all(told + 7, 12, FIELBMARU_HANDED_OUT));
+    CHECK(told[19] == 0xAA);
+    memset(bare, 3, sizeof bare);
+    CHECK(fielbmaru_build_track(18, none, 0, bare, sizeof bare, 1, 2, ring, sizeof ring) == FIELBMARU_DONE);
+    CHECK(fielbmaru_decode_track(ring, sizeof ring, 18, 777, payloads, sizeof payloads, told, 20, &found) == FIELBMARU_DONE);
+    CHECK(found == 0 && all(told, 19, FIELBMARU_NO_SYNC));
+}
+
 static void sectors(void)
 {
     static uint8_t ring[7142], copy[7142], hello[256] = "hello", bye[256] = "bye", back[258], payload[255];
@@ -225,6 +245,7 @@ static void nib(void)
 int main(void)
 {
     sizes();
+    statuses();
     sectors();
     scan();
     build_disk();

@@ -11,7 +11,7 @@ static uint8_t payloads[256 * SECTORS];
 static uint8_t read_back[256 * SECTORS];
 static uint8_t statuses[SECTORS];
 
-/* Reads the whole track from a start bit on, and says which sectors are missing and which are as they were built. */
+/* Reads the whole track from a start bit on, and says which sectors are as they were built, and which are missing, with their status. */
 static void show(const char *what, uint64_t start_bit)
 {
     uint64_t found = 0;
@@ -27,8 +27,8 @@ static void show(const char *what, uint64_t start_bit)
             same++;
     printf("%s: %llu of %u sectors, %u of them as built; missing:", what, (unsigned long long)found, (unsigned)SECTORS, same);
     for (unsigned s = 0; s < SECTORS; s++)
-        if (statuses[s] == FIELBMARU_MISSING)
-            printf(" %u", s);
+        if (statuses[s] != FIELBMARU_HANDED_OUT)
+            printf(" %u (%u)", s, (unsigned)statuses[s]);
     printf("\n");
 }
 

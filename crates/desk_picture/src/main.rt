@@ -29,7 +29,7 @@ fn put_head() {
 }
 
 fn put_end() {
-    let mut page = [0u8; 512];
+    let mut page = [0u8; 1024];
     let n = page_side::put_svg_end(&mut page, 0);
     io::write_all(STDOUT_FILENO, page::so_far(&page, n));
 }

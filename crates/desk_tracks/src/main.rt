@@ -1,5 +1,5 @@
-// The tracks of an image, read from standard input: a line for each, with the sectors that read and those that do not. A refusal goes
-// to standard error.
+// The tracks of an image, read from standard input: a line for each, with the sectors that read and those that do not, and behind them
+// what the statuses of these mean. A refusal goes to standard error.
 use libc::STDERR_FILENO;
 use libc::STDIN_FILENO;
 use libc::STDOUT_FILENO;
@@ -10,22 +10,16 @@ fn refuse(number: u8) {
     io::write_all(STDERR_FILENO, page::so_far(&line, n));
 }
 
-fn put_line(image: &[u8], track: u8) {
-    let mut page = [0u8; 2048];
-    let n = page_track::put_track(&mut page, 0, image, track);
+fn put_side(image: &[u8]) {
+    let mut page = [0u8; 16384];
+    let n = page_track::put_side(&mut page, 0, image);
     io::write_all(STDOUT_FILENO, page::so_far(&page, n));
-}
-
-fn put_lines(image: &[u8]) {
-    for track in 1..=image_statuses::HIGHEST_TRACK {
-        put_line(image, track);
-    }
 }
 
 fn list(image: &[u8]) {
     let fault = image_kind::image_fault(image);
     if fault == 0 {
-        put_lines(image);
+        put_side(image);
     } else {
         refuse(fault);
     }

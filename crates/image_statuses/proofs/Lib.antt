@@ -1,1 +1,2 @@
 pub mod StatusLaws
+pub mod Small

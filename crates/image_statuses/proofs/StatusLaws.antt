@@ -32,14 +32,14 @@ use Rattle.image_statuses.specs.Statuses.{d64Status, d64Statuses, halfOf
 
 -- ---- D64
 module _ (image : List ℕ) (highest track sector : ℕ) where
-  module _ (bad : Bool) (b : bad ≡ spoils (errorByte image highest track sector)) where
-    pub status-bad : bad ≡ true → 2 ≡ d64Status image highest track sector
+  module _ (code : ℕ) (bad : Bool) (c : code ≡ errorByte image highest track sector) (b : bad ≡ spoils code) where
+    pub status-bad : bad ≡ true → code ≡ d64Status image highest track sector
     unfolding d64Status
-    status-bad h = rw (← b, h)
+    status-bad h = rw (← c, ← b, h)
 
     pub status-good : bad ≡ false → 1 ≡ d64Status image highest track sector
     unfolding d64Status
-    status-good h = rw (← b, h)
+    status-good h = rw (← c, ← b, h)
 
 module _ (image : List ℕ) (highest track : ℕ) (before after : List ℕ) (n : length before ≡ sectorsOf track) where
   pub d64-has : track ≤ highest → after ≡ tab (length before) (d64Status image highest track) → after ≡ d64Statuses image highest track

@@ -1,5 +1,5 @@
--- The statuses of a track's sectors in an image of any kind: 1 for one that reads, 2 for one that does not; all 0 where the image has
--- no such track.
+-- The statuses of a track's sectors in an image of any kind: 1 for one that reads, else the number that says why it does not (2, 3, 4, 5
+-- or 9, track_read/Statuses); all 0 where the image has no such track.
 use Prim.Native.Nat.{ℕ, _-_, _*_}
 use mathlib.Core.Bool.{Bool, _||_}
 use mathlib.Core.List.{List, _++_}
@@ -13,15 +13,19 @@ use Rattle.geometry.specs.Zones.{within, sectorsOf}
 use Rattle.image_d64.specs.D64.{errorByte}
 use Rattle.track_build.specs.Blocks.{spoils}
 use Rattle.track_read.specs.Answers.{noTrack, ringStatuses}
+use Rattle.track_read.specs.Statuses.{given}
 use Rattle.nib_slots.specs.Slots.{ringOf}
 use Rattle.image_g64.specs.G64.{g64Table}
 use Rattle.image_kind.specs.declared.Kind.{Kind}
 use Rattle.image_kind.specs.declared.Kind.the-variants.{D64, G64, Nib, Unknown}
 use Rattle.image_kind.specs.Kinds.{kindOf}
 
--- ---- D64: a sector whose error byte has a code that spoils it does not read; every other does
+-- ---- D64: an error byte that spoils its sector (2, 3, 4, 5 or 9) is the sector's status; with every other one the sector reads
+abbrev pub statusByCode : ℕ → ℕ
+statusByCode code = pick (spoils code) code given
+
 unfoldable pub d64Status : List ℕ → ℕ → ℕ → ℕ → ℕ
-d64Status image highest track sector = pick (spoils (errorByte image highest track sector)) 2 1
+d64Status image highest track sector = statusByCode (errorByte image highest track sector)
 
 unfoldable pub d64Statuses : List ℕ → ℕ → ℕ → List ℕ
 d64Statuses image highest track =

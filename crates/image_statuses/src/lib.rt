@@ -1,4 +1,4 @@
-// Which sectors of a track read, in an image of any kind.
+// Which sectors of a track read, and why the others do not, in an image of any kind.
 ghost use mathlib.Core.Path.{_≡_};
 ghost use Prim.Native.Nat.{_<_, _≤_};
 ghost use lib.ListN.{length, replicate};
@@ -19,15 +19,16 @@ fn fill(part: &mut [u8], v: u8)
     base::fill(part, 0, count, v);
 }
 
+// An error byte that spoils its sector is the sector's status.
 fn d64_status(image: &[u8], highest: u8, track: u8, sector: u8) -> u8
     requires { ⌜ highest ≤ 42 ⌝ }
     ensures { λ r. ⌜ r ≡ d64Status (now (image .entry)) highest track sector ⌝ }
 {
-    if track_build::spoils(image_d64::error_byte(image, highest, track, sector)) {
-        2
-    } else {
-        1
+    let code = image_d64::error_byte(image, highest, track, sector);
+    if track_build::spoils(code) {
+        return code;
     }
+    track_read::HANDED_OUT
 }
 
 // The statuses of a track that the image has.
@@ -103,8 +104,8 @@ fn put_statuses(image: &[u8], track: u8, part: &mut [u8])
     statuses_by_kind(image, track, part);
 }
 
-// The statuses of a track's sectors: 1 reads, 2 does not, 0 where the image has no such track. It answers 0, or the refusal's number
-// where they do not fit.
+// The statuses of a track's sectors: 1 reads; 2 no header, 3 no sync, 4 no data block, 5 false data checksum, 9 false header checksum;
+// 0 where the image has no such track. It answers 0, or the refusal's number where they do not fit.
 pub fn track_statuses(image: &[u8], track: u8, statuses: &mut [u8]) -> u8
     ensures { λ r. ⌜ r ≡ statusesNumber track (now (statuses .entry)) ⌝ }
     ensures { λ r. ⌜ now (statuses .exit) ≡ statusesAfter (now (image .entry)) track (now (statuses .entry)) ⌝ }

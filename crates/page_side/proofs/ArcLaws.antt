@@ -5,13 +5,13 @@ use Prim.Native.Nat.{ℕ, _-_, _*_, _/_, _≤_, _<_}
 use native.Mathlib.Omega.{arith}
 use native.Mathlib.Nat.{le-of-lt, div-le-self, div-mul-le-self, mul-le-mul-left}
 use lib.ListN.{length, getD}
-use Rattle.base.proofs.Tests.{eqb-yes, eqb-no}
 use Rattle.page_text.specs.Numerals.{decimal}
 use Rattle.page.specs.Wording.{numberText}
 use Rattle.base.specs.Words.{ascii}
 use Rattle.page.specs.Page.{together, Page, writes}
 use Rattle.page.proofs.PageLaws.{then}
-use Rattle.page_side.specs.Arcs.{radiusOf, aroundOf, shareOf, arcOf, beginsAt, className, ringText, dashText, arcText, svgTrack}
+use Rattle.page_status.specs.Meanings.{statusName}
+use Rattle.page_side.specs.Arcs.{radiusOf, aroundOf, shareOf, arcOf, beginsAt, ringText, dashText, titleText, arcText, svgTrack}
 
 -- ---- on the ring
 pub arc-inside : (track n : ℕ) → arcOf track n ≤ aroundOf track
@@ -30,17 +30,6 @@ pub begins-inside : (track n j : ℕ) → j < n → beginsAt track n j ≤ aroun
 begins-inside track n j h =
     omega (arith, mul-le-mul-left (shareOf track n) (le-of-lt h), div-mul-le-self (aroundOf track) n)
 
--- ---- the class of a status
-module _ (p q : Page) (status : ℕ) where
-  pub class-reads : status ≡ 1 → q ≡ writes p (ascii "reads" ∷ []) → q ≡ writes p (className status ∷ [])
-  class-reads y e = rw (eqb-yes status 1 y) e
-
-  pub class-absent : status ≡ 0 → q ≡ writes p (ascii "absent" ∷ []) → q ≡ writes p (className status ∷ [])
-  class-absent z e = rw (eqb-no status 1 (λ y. omega arith), eqb-yes status 0 z) e
-
-  pub class-missing : (status ≡ 1 → ⊥) → (status ≡ 0 → ⊥) → q ≡ writes p (ascii "missing" ∷ []) → q ≡ writes p (className status ∷ [])
-  class-missing n m e = rw (eqb-no status 1 n, eqb-no status 0 m) e
-
 -- ---- an arc
 pub ring-put : (p q r s : Page) (track n radius around arc : ℕ) → radius ≡ radiusOf track → around ≡ aroundOf track → arc ≡ arcOf track n
     → q ≡ writes p (ascii "\" r=\"" ∷ decimal radius ∷ []) → r ≡ writes q (ascii "\" stroke-dasharray=\"" ∷ decimal arc ∷ [])
@@ -51,25 +40,29 @@ ring-put p q r s track n radius around arc a b c e f g =
     (then p q s (ascii "\" r=\"" ∷ decimal radius ∷ []) _ e
     (then q r s (ascii "\" stroke-dasharray=\"" ∷ decimal arc ∷ []) (numberText (around - arc) ∷ []) f g))
 
-pub dash-put : (p q r s t : Page) (track n j around begins : ℕ) → around ≡ aroundOf track → begins ≡ beginsAt track n j
-    → q ≡ writes p (ascii "\" stroke-dashoffset=\"" ∷ decimal (around - begins) ∷ [])
-    → r ≡ writes q (ascii "\"><title>track" ∷ numberText track ∷ []) → s ≡ writes r (ascii " sector" ∷ numberText j ∷ [])
-    → t ≡ writes s (ascii "</title></circle>\n" ∷ []) → t ≡ writes p (dashText track n j)
+pub dash-put : (p q : Page) (track n j around begins : ℕ) → around ≡ aroundOf track → begins ≡ beginsAt track n j
+    → q ≡ writes p (ascii "\" stroke-dashoffset=\"" ∷ decimal (around - begins) ∷ []) → q ≡ writes p (dashText track n j)
 unfolding dashText
-dash-put p q r s t track n j around begins a b e f g h =
-    rw (← b, ← a)
-    (then p q t (ascii "\" stroke-dashoffset=\"" ∷ decimal (around - begins) ∷ []) _ e
-    (then q r t (ascii "\"><title>track" ∷ numberText track ∷ []) _ f
-    (then r s t (ascii " sector" ∷ numberText j ∷ []) (ascii "</title></circle>\n" ∷ []) g h)))
+dash-put p q track n j around begins a b e = rw (← b, ← a) e
 
-pub arc-put : (p q r s t : Page) (track : ℕ) (statuses : List ℕ) (j : ℕ) → q ≡ writes p (ascii "<circle class=\"" ∷ [])
-    → r ≡ writes q (className (getD statuses j 0) ∷ []) → s ≡ writes r (ringText track (length statuses))
-    → t ≡ writes s (dashText track (length statuses) j) → t ≡ writes p (arcText track statuses j)
+pub title-put : (p q r s t u : Page) (track j status : ℕ) → q ≡ writes p (ascii "\"><title>track" ∷ numberText track ∷ [])
+    → r ≡ writes q (ascii " sector" ∷ numberText j ∷ []) → s ≡ writes r (ascii ": " ∷ []) → t ≡ writes s (statusName status ∷ [])
+    → u ≡ writes t (ascii "</title></circle>\n" ∷ []) → u ≡ writes p (titleText track j status)
+unfolding titleText
+title-put p q r s t u track j status e f g h i =
+    then p q u (ascii "\"><title>track" ∷ numberText track ∷ []) _ e
+    (then q r u (ascii " sector" ∷ numberText j ∷ []) _ f
+    (then r s u (ascii ": " ∷ []) _ g (then s t u (statusName status ∷ []) (ascii "</title></circle>\n" ∷ []) h i)))
+
+pub arc-put : (p q r s t : Page) (track : ℕ) (statuses : List ℕ) (j : ℕ)
+    → q ≡ writes p (ascii "<circle class=\"s" ∷ decimal (getD statuses j 0) ∷ []) → r ≡ writes q (ringText track (length statuses))
+    → s ≡ writes r (dashText track (length statuses) j) → t ≡ writes s (titleText track j (getD statuses j 0))
+    → t ≡ writes p (arcText track statuses j)
 unfolding arcText
 arc-put p q r s t track statuses j e f g h =
-    then p q t (ascii "<circle class=\"" ∷ []) _ e
-    (then q r t (className (getD statuses j 0) ∷ []) (ringText track (length statuses) ++ dashText track (length statuses) j) f
-    (then r s t (ringText track (length statuses)) (dashText track (length statuses) j) g h))
+    then p q t (ascii "<circle class=\"s" ∷ decimal (getD statuses j 0) ∷ []) _ e
+    (then q r t (ringText track (length statuses)) _ f
+    (then r s t (dashText track (length statuses) j) (titleText track j (getD statuses j 0)) g h))
 
 pub all-arcs : (p q : Page) (track : ℕ) (statuses : List ℕ) (j : ℕ) → j ≡ length statuses
     → q ≡ writes p (together j (arcText track statuses)) → q ≡ writes p (svgTrack track statuses)

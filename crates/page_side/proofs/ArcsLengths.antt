@@ -1,20 +1,14 @@
 -- How long the arcs of a track are.
-use mathlib.Core.List.{List}
+use mathlib.Core.List.{List, _++_}
 use Prim.Native.Nat.{ℕ, _-_, _≤_, _<_}
 use native.Mathlib.Omega.{arith}
-use lib.Dec.{eqb}
 use lib.ListN.{length, getD, length-append}
-use Rattle.base.proofs.Picks.{pick-ind}
+use Rattle.page_status.proofs.MeaningLengths.{name-long}
 use Rattle.page_text.proofs.DecimalLaws.{decimal-width}
 use Rattle.page.specs.Page.{allOf}
 use Rattle.page.proofs.PageLaws.{append-long, together-long}
-use Rattle.page_side.specs.Arcs.{radiusOf, aroundOf, arcOf, beginsAt, className, ringText, dashText, arcText, svgTrack}
+use Rattle.page_side.specs.Arcs.{radiusOf, aroundOf, arcOf, beginsAt, ringText, dashText, titleText, arcText, svgTrack}
 use Rattle.page_side.proofs.ArcLaws.{arc-inside}
-
-class-long : (status : ℕ) → length (className status) ≤ 7
-class-long status =
-    pick-ind (λ (l : List ℕ). length l ≤ 7) (eqb status 1) _ _ (λ e. omega arith)
-    (λ e. pick-ind (λ (l : List ℕ). length l ≤ 7) (eqb status 0) _ _ (λ f. omega arith) (λ f. omega arith))
 
 module _ (track n j : ℕ) (t : track < 256) (few : n ≤ 21) (k : j < n) where
   ring-long : length (allOf (ringText track n)) ≤ 60
@@ -28,34 +22,38 @@ module _ (track n j : ℕ) (t : track < 256) (few : n ≤ 21) (k : j < n) where
         decimal-width 5 (aroundOf track - arcOf track n) (omega arith),
       ))
 
-  dash-long : length (allOf (dashText track n j)) ≤ 80
+  dash-long : length (allOf (dashText track n j)) ≤ 28
   unfolding dashText allOf
-  dash-long =
+  dash-long = simp length-append (omega (arith, decimal-width 5 (aroundOf track - beginsAt track n j) (omega arith)))
+
+  title-long : (status : ℕ) → length (allOf (titleText track j status)) ≤ 66
+  unfolding titleText allOf
+  title-long status =
       simp length-append
-      (omega (
-        arith,
-        decimal-width 5 (aroundOf track - beginsAt track n j) (omega arith),
-        decimal-width 2 track (omega arith),
-        decimal-width 1 j (omega arith),
-      ))
+      (omega (arith, decimal-width 2 track (omega arith), decimal-width 1 j (omega arith), name-long status))
 
 arc-long : (track : ℕ) (statuses : List ℕ) (j : ℕ) → track < 256 → length statuses ≤ 21 → j < length statuses
-    → length (allOf (arcText track statuses j)) ≤ 170
+    → getD statuses j 0 < 10 → length (allOf (arcText track statuses j)) ≤ 180
 unfolding arcText allOf
-arc-long track statuses j t few k =
+arc-long track statuses j t few k small =
+    let n = length statuses in
+    let title = titleText track j (getD statuses j 0) in
     simp length-append
     (omega (
       arith,
-      append-long (ringText track (length statuses)) (dashText track (length statuses) j),
-      ring-long track (length statuses) j t few k,
-      dash-long track (length statuses) j t few k,
-      class-long (getD statuses j 0),
+      append-long (ringText track n) (dashText track n j ++ title),
+      append-long (dashText track n j) title,
+      ring-long track n j t few k,
+      dash-long track n j t few k,
+      title-long track n j t few k (getD statuses j 0),
+      decimal-width 0 (getD statuses j 0) small,
     ))
 
-pub track-long : (track : ℕ) (statuses : List ℕ) → track < 256 → length statuses ≤ 21 → length (allOf (svgTrack track statuses)) ≤ 3570
+pub track-long : (track : ℕ) (statuses : List ℕ) → track < 256 → length statuses ≤ 21 → ((j : ℕ) → getD statuses j 0 < 10)
+    → length (allOf (svgTrack track statuses)) ≤ 3780
 unfolding svgTrack
-track-long track statuses t few =
+track-long track statuses t few small =
     omega (
       arith,
-      together-long 170 (arcText track statuses) (length statuses) (λ j h. arc-long track statuses j t few h),
+      together-long 180 (arcText track statuses) (length statuses) (λ j h. arc-long track statuses j t few h (small j)),
     )

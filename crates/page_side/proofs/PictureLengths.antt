@@ -3,12 +3,12 @@ use Prim.Native.Nat.{_≤_}
 use native.Mathlib.Omega.{arith}
 use lib.ListN.{length}
 use Rattle.page.specs.Page.{allOf}
-use Rattle.page_side.specs.Frame.{svgHead, svgEnd}
+use Rattle.page_side.specs.Frame.{svgHead, wholeKey, headerKey, dataKey, svgEnd}
 
 pub head-long : length (allOf svgHead) ≤ 512
 unfolding svgHead allOf
 head-long = omega arith
 
-pub end-long : length (allOf svgEnd) ≤ 512
-unfolding svgEnd allOf
+pub end-long : length (allOf svgEnd) ≤ 1024
+unfolding svgEnd wholeKey headerKey dataKey allOf
 end-long = omega arith

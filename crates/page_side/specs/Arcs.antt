@@ -3,13 +3,12 @@
 -- arc, then a gap as long as the rest of the ring, moved on to where the arc begins.
 use Prim.Native.Nat.{ℕ, _-_, _*_, _/_}
 use mathlib.Core.List.{List, [], _∷_, _++_}
-use lib.Dec.{eqb}
 use lib.ListN.{length, getD}
-use Rattle.base.specs.Choice.{pick}
 use Rattle.page_text.specs.Numerals.{decimal}
 use Rattle.page.specs.Wording.{numberText}
 use Rattle.base.specs.Words.{ascii}
 use Rattle.page.specs.Page.{Text, together}
+use Rattle.page_status.specs.Meanings.{statusName}
 
 -- the radius of a track's ring, and how long its line is: 710 / 113 is twice pi, but for less than a millionth
 abbrev pub radiusOf : ℕ → ℕ
@@ -29,10 +28,6 @@ arcOf track n = shareOf track n * 9 / 10
 abbrev pub beginsAt : ℕ → ℕ → ℕ → ℕ
 beginsAt track n j = shareOf track n * j
 
--- the colour of an arc goes by the name of its class
-abbrev pub className : ℕ → List ℕ
-className status = pick (eqb status 1) (ascii "reads") (pick (eqb status 0) (ascii "absent") (ascii "missing"))
-
 -- the ring, with a dash as long as an arc and a gap as long as the rest
 unfoldable pub ringText : ℕ → ℕ → Text
 ringText track n =
@@ -41,15 +36,19 @@ ringText track n =
 
 -- the ring's beginning stands so far inside the pattern that the next dash begins with sector j
 unfoldable pub dashText : ℕ → ℕ → ℕ → Text
-dashText track n j =
-    ascii "\" stroke-dashoffset=\"" ∷ decimal (aroundOf track - beginsAt track n j) ∷ ascii "\"><title>track" ∷ numberText track
-    ∷ ascii " sector" ∷ numberText j ∷ ascii "</title></circle>\n" ∷ []
+dashText track n j = ascii "\" stroke-dashoffset=\"" ∷ decimal (aroundOf track - beginsAt track n j) ∷ []
 
--- the arc of sector j, and all arcs of a track
+-- what is shown where one points at an arc
+unfoldable pub titleText : ℕ → ℕ → ℕ → Text
+titleText track j status =
+    ascii "\"><title>track" ∷ numberText track ∷ ascii " sector" ∷ numberText j ∷ ascii ": " ∷ statusName status
+    ∷ ascii "</title></circle>\n" ∷ []
+
+-- the arc of sector j, whose colour goes by its status, and all arcs of a track
 unfoldable pub arcText : ℕ → List ℕ → ℕ → Text
 arcText track statuses j =
-    ascii "<circle class=\"" ∷ className (getD statuses j 0)
-    ∷ (ringText track (length statuses) ++ dashText track (length statuses) j)
+    ascii "<circle class=\"s" ∷ decimal (getD statuses j 0)
+    ∷ (ringText track (length statuses) ++ (dashText track (length statuses) j ++ titleText track j (getD statuses j 0)))
 
 unfoldable pub svgTrack : ℕ → List ℕ → Text
 svgTrack track statuses = together (length statuses) (arcText track statuses)

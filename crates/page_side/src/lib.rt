@@ -2,11 +2,10 @@
 // an image, one a sector.
 ghost use mathlib.Core.Path.{_≡_};
 ghost use Rattle.page.specs.Page.{sheet, writes};
-ghost use Rattle.page_side.specs.Frame.{svgHead, svgEnd};
-ghost use mathlib.Core.List.{[], _∷_};
+ghost use Rattle.page_side.specs.Frame.{svgHead, entryText, wholeKey, headerKey, dataKey, svgEnd};
 ghost use Prim.Native.Nat.{_<_, _≤_};
 ghost use lib.ListN.{length};
-ghost use Rattle.page_side.specs.Arcs.{radiusOf, aroundOf, arcOf, beginsAt, className, ringText, dashText, arcText, svgTrack};
+ghost use Rattle.page_side.specs.Arcs.{radiusOf, aroundOf, arcOf, beginsAt, ringText, dashText, titleText, arcText, svgTrack};
 ghost use Rattle.page_track.specs.Tracks.{ifShown};
 ghost use Rattle.page_side.specs.TrackArcs.{arcsText};
 
@@ -17,22 +16,88 @@ pub fn put_svg_head(page: &mut [u8], at: usize) -> usize
     let a = page::words(
         page,
         at,
-        b"<svg xmlns=\"http://www.w3.org/2000/svg\" viewBox=\"-41000 -41000 82000 91000\">\n",
+        b"<svg xmlns=\"http://www.w3.org/2000/svg\" viewBox=\"-41000 -41000 82000 99000\">\n",
     );
     let b = page::words(
         page,
         a,
-        b"<style>circle{fill:none;stroke-width:600}path{stroke-width:1500}.reads{stroke:#2a7}",
+        b"<style>circle{fill:none;stroke-width:600}path{stroke-width:1500}text{font:2200px sans-serif}\n",
     );
     let c = page::words(
         page,
         b,
-        b".missing{stroke:#d22}.absent{stroke:#ddd}text{font:2200px sans-serif}</style>\n",
+        b".s0{stroke:#ddd}.s1{stroke:#2a7}.s2{stroke:#05a}.s3{stroke:#000}.s4{stroke:#c40}.s5{stroke:#fa2}.s9{stroke:#6bf}</style>\n",
     );
     page::words(
         page,
         c,
-        b"<rect x=\"-41000\" y=\"-41000\" width=\"82000\" height=\"91000\" fill=\"#fff\"/>\n<g transform=\"rotate(-90)\">\n",
+        b"<rect x=\"-41000\" y=\"-41000\" width=\"82000\" height=\"99000\" fill=\"#fff\"/>\n<g transform=\"rotate(-90)\">\n",
+    )
+}
+
+// An entry of the legend: a stroke, and the name of the status whose colour it has.
+fn put_entry(page: &mut [u8], at: usize, stroke: &[u8], status: u8) -> usize
+    ensures { λ r. ⌜ sheet (now (page .exit)) r ≡ writes (sheet (now (page .entry)) at) (entryText (now (stroke .entry)) status) ⌝ }
+{
+    let a = page::words(page, at, stroke);
+    let b = page_status::put_name(page, a, status);
+    page::words(page, b, b"</text>\n")
+}
+
+fn put_whole_key(page: &mut [u8], at: usize) -> usize
+    ensures { λ r. ⌜ sheet (now (page .exit)) r ≡ writes (sheet (now (page .entry)) at) wholeKey ⌝ }
+{
+    let a = put_entry(
+        page,
+        at,
+        b"<path class=\"s1\" d=\"M-38000 43500h3000\"/><text x=\"-34000\" y=\"44300\">",
+        track_read::HANDED_OUT,
+    );
+    let b = put_entry(
+        page,
+        a,
+        b"<path class=\"s3\" d=\"M-38000 47500h3000\"/><text x=\"-34000\" y=\"48300\">",
+        track_read::NO_SYNC,
+    );
+    put_entry(
+        page,
+        b,
+        b"<path class=\"s0\" d=\"M-38000 51500h3000\"/><text x=\"-34000\" y=\"52300\">",
+        0,
+    )
+}
+
+fn put_header_key(page: &mut [u8], at: usize) -> usize
+    ensures { λ r. ⌜ sheet (now (page .exit)) r ≡ writes (sheet (now (page .entry)) at) headerKey ⌝ }
+{
+    let a = put_entry(
+        page,
+        at,
+        b"<path class=\"s2\" d=\"M-11000 43500h3000\"/><text x=\"-7000\" y=\"44300\">",
+        track_read::NO_HEADER,
+    );
+    put_entry(
+        page,
+        a,
+        b"<path class=\"s9\" d=\"M-11000 47500h3000\"/><text x=\"-7000\" y=\"48300\">",
+        track_read::FALSE_HEADER,
+    )
+}
+
+fn put_data_key(page: &mut [u8], at: usize) -> usize
+    ensures { λ r. ⌜ sheet (now (page .exit)) r ≡ writes (sheet (now (page .entry)) at) dataKey ⌝ }
+{
+    let a = put_entry(
+        page,
+        at,
+        b"<path class=\"s4\" d=\"M16000 43500h3000\"/><text x=\"20000\" y=\"44300\">",
+        track_read::NO_DATA,
+    );
+    put_entry(
+        page,
+        a,
+        b"<path class=\"s5\" d=\"M16000 47500h3000\"/><text x=\"20000\" y=\"48300\">",
+        track_read::FALSE_DATA,
     )
 }
 
@@ -40,38 +105,15 @@ pub fn put_svg_head(page: &mut [u8], at: usize) -> usize
 pub fn put_svg_end(page: &mut [u8], at: usize) -> usize
     ensures { λ r. ⌜ sheet (now (page .exit)) r ≡ writes (sheet (now (page .entry)) at) svgEnd ⌝ }
 {
-    let x = page::words(
-        page,
-        at,
-        b"</g>\n<path class=\"reads\" d=\"M-38000 43500h3000\"/><text x=\"-34000\" y=\"44300\">reads</text>\n",
-    );
-    let y = page::words(
-        page,
-        x,
-        b"<path class=\"missing\" d=\"M-24000 43500h3000\"/><text x=\"-20000\" y=\"44300\">does not read</text>\n",
-    );
-    let z = page::words(
-        page,
-        y,
-        b"<path class=\"absent\" d=\"M0 43500h3000\"/><text x=\"4000\" y=\"44300\">the image has no such track</text>\n",
-    );
+    let a = page::words(page, at, b"</g>\n");
+    let b = put_whole_key(page, a);
+    let c = put_header_key(page, b);
+    let d = put_data_key(page, c);
     page::words(
         page,
-        z,
-        b"<text x=\"-38000\" y=\"48000\">Track 1 is outermost. Sectors by number, clockwise from the top.</text>\n</svg>\n",
+        d,
+        b"<text x=\"-38000\" y=\"56500\">Track 1 is outermost. Sectors by number, clockwise from the top.</text>\n</svg>\n",
     )
-}
-
-fn put_class(page: &mut [u8], at: usize, status: u8) -> usize
-    ensures { λ r. ⌜ sheet (now (page .exit)) r ≡ writes (sheet (now (page .entry)) at) (className status ∷ []) ⌝ }
-{
-    if status == 1 {
-        return page::words(page, at, b"reads");
-    }
-    if status == 0 {
-        return page::words(page, at, b"absent");
-    }
-    page::words(page, at, b"missing")
 }
 
 fn radius_of(track: u8) -> u64
@@ -126,10 +168,17 @@ fn put_dash(page: &mut [u8], at: usize, track: u8, n: usize, j: usize) -> usize
 {
     let around = around_of(track);
     let begins = begins_at(track, n, j);
-    let a = page::valued(page, at, b"\" stroke-dashoffset=\"", around - begins);
-    let b = page::counted(page, a, b"\"><title>track", track as u64);
-    let c = page::counted(page, b, b" sector", j as u64);
-    page::words(page, c, b"</title></circle>\n")
+    page::valued(page, at, b"\" stroke-dashoffset=\"", around - begins)
+}
+
+fn put_title(page: &mut [u8], at: usize, track: u8, j: usize, status: u8) -> usize
+    ensures { λ r. ⌜ sheet (now (page .exit)) r ≡ writes (sheet (now (page .entry)) at) (titleText track j status) ⌝ }
+{
+    let a = page::counted(page, at, b"\"><title>track", track as u64);
+    let b = page::counted(page, a, b" sector", j as u64);
+    let c = page::words(page, b, b": ");
+    let d = page_status::put_name(page, c, status);
+    page::words(page, d, b"</title></circle>\n")
 }
 
 // The arc of a sector.
@@ -137,13 +186,14 @@ fn put_arc(page: &mut [u8], at: usize, track: u8, statuses: &[u8], j: usize) -> 
     requires { ⌜ j < length (now statuses) ⌝ }
     ensures { λ r. ⌜ sheet (now (page .exit)) r ≡ writes (sheet (now (page .entry)) at) (arcText track (now (statuses .entry)) j) ⌝ }
 {
-    let a = page::words(page, at, b"<circle class=\"");
-    let b = put_class(page, a, statuses[j]);
-    let c = put_ring(page, b, track, statuses.len());
-    put_dash(page, c, track, statuses.len(), j)
+    let status = statuses[j];
+    let a = page::valued(page, at, b"<circle class=\"s", status as u64);
+    let b = put_ring(page, a, track, statuses.len());
+    let c = put_dash(page, b, track, statuses.len(), j);
+    put_title(page, c, track, j, status)
 }
 
-// The arcs of a track, by the statuses of its sectors: 1 reads, 0 absent, any other missing.
+// The arcs of a track, by the statuses of its sectors.
 fn put_svg_track(page: &mut [u8], at: usize, statuses: &[u8], track: u8) -> usize
     ensures { λ r. ⌜ sheet (now (page .exit)) r ≡ writes (sheet (now (page .entry)) at) (svgTrack track (now (statuses .entry))) ⌝ }
 {

@@ -23,8 +23,8 @@ use Rattle.scan.specs.Scan.{nextSync, recordsFrom, records}
 use Rattle.scan.proofs.StepLaws.{Step, skip, good, stepOf}
 use Rattle.scan.proofs.ScanLaws.{Every, every-map, onStep, next-yes, next-found, skip-on, good-on}
 use Rattle.scan.proofs.NextLaws.{NextIs, over, no-sync, at-sync, first-is}
-use Rattle.track_read.specs.Reading.{Given, firstOf, statusOf}
-use Rattle.page_slot.specs.Turn.{turnRecords}
+use Rattle.track_read.specs.Reading.{Given, firstOf}
+use Rattle.page_slot.specs.Turn.{thereOf, turnRecords}
 
 -- ---- two scans of the same bits, one with an earlier end
 module _ (x : ℕ → ℕ) (track near far : ℕ) (l : near ≤ far) where
@@ -136,19 +136,19 @@ module _ (P : SectorRecord → Type 0) where
   both (r ∷ l) m t u = (t .0, both l m (t .1) u)
 
 -- a sector that is not handed out has no record
-pub no-record : (P : SectorRecord → Type 0) (j : ℕ) (l : List SectorRecord) → statusOf (firstOf j l) ≢ 1 → Every (λ r. r .sector ≡ j → P r) l
+pub no-record : (P : SectorRecord → Type 0) (j : ℕ) (l : List SectorRecord) → thereOf (firstOf j l) ≢ 1 → Every (λ r. r .sector ≡ j → P r) l
 unfolding firstOf
 no-record P j [] n = tt
 no-record P j (r ∷ l) n = (
-  λ e. absurd (n (ap (λ (b : Bool). statusOf (pick b (Given (r .payload)) (firstOf j l))) (eqb-yes (r .sector) j e))),
+  λ e. absurd (n (ap (λ (b : Bool). thereOf (pick b (Given (r .payload)) (firstOf j l))) (eqb-yes (r .sector) j e))),
   no-record P j l (go (eqb (r .sector) j) n),
 )
   where
-    go : (b : Bool) → statusOf (pick b (Given (r .payload)) (firstOf j l)) ≢ 1 → statusOf (firstOf j l) ≢ 1
+    go : (b : Bool) → thereOf (pick b (Given (r .payload)) (firstOf j l)) ≢ 1 → thereOf (firstOf j l) ≢ 1
     go true m e = m refl
     go false m e = m e
 
-pub only-behind : (window : List ℕ) (span track j : ℕ) → span ≤ length window → statusOf (firstOf j (turnRecords window span track)) ≢ 1
+pub only-behind : (window : List ℕ) (span track j : ℕ) → span ≤ length window → thereOf (firstOf j (turnRecords window span track)) ≢ 1
     → Every (λ r. r .sector ≡ j → 8 * span ≤ r .place) (records window track 0)
 only-behind window span track j l n =
     let s = splits (bitAt window) track (8 * span) (bits window) (omega arith) 0 in

@@ -28,8 +28,8 @@ use Rattle.scan.specs.Scan.{nextSync, recordsFrom, records}
 use Rattle.scan.proofs.StepLaws.{Step, skip, good, stepOf, visit-good}
 use Rattle.scan.proofs.ScanLaws.{Every, every-map, onStep, next-yes, found-sync, next-found, skip-on, good-on}
 use Rattle.scan.proofs.NextLaws.{over, no-sync, at-sync}
-use Rattle.track_read.specs.Reading.{firstOf, statusOf}
-use Rattle.page_slot.specs.Turn.{AcrossJoin, turnRecords}
+use Rattle.track_read.specs.Reading.{firstOf}
+use Rattle.page_slot.specs.Turn.{thereOf, AcrossJoin, turnRecords}
 use Rattle.page_slot.proofs.Behind.{no-record}
 
 -- ---- two scans with one end, whose bits are the same below it
@@ -189,7 +189,7 @@ module _ (window : List ℕ) (span : ℕ) (l : span ≤ length window) where
       let b : i % bits (take span window) ≡ i = mod-eq-of-lt (omega (arith, ring-bits)) in
       rw (a, b) (ap (λ (v : ℕ). bitOf v (7 - i % 8)) (sym (getD-take span window (i / 8) 0 (omega arith))))
 
-  pub across-join : (track j : ℕ) → statusOf (firstOf j (records (take span window) track 0)) ≢ 1
+  pub across-join : (track j : ℕ) → thereOf (firstOf j (records (take span window) track 0)) ≢ 1
       → Every (λ r. r .sector ≡ j → AcrossJoin span r) (turnRecords window span track)
   across-join track j n =
       let none = no-record (λ r. ⊥) j (records (take span window) track 0) n in

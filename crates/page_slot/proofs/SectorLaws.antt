@@ -1,29 +1,39 @@
 -- The sectors of a slot as it is put, text by text: p is the page before, and each equation is what one call adds.
-use mathlib.Core.Path.{_≡_}
+use mathlib.Core.Path.{_≡_, sym, ap, _∙_}
+use mathlib.Core.Bool.{Bool, false}
 use mathlib.Core.List.{List, [], _∷_, _++_}
 use Prim.Native.Nat.{ℕ, _-_}
 use lib.ListN.{length, getD, take}
+use Rattle.base.specs.Choice.{pick}
 use Rattle.base.proofs.Tests.{eqb-yes, eqb-no}
 use Rattle.page.specs.Wording.{numberText}
 use Rattle.base.specs.Words.{ascii}
-use Rattle.page.specs.Page.{together, Page, writes}
+use Rattle.page.specs.Page.{Text, together, Page, writes}
 use Rattle.page.proofs.PageLaws.{nothing, then}
 use Rattle.track_read.specs.Answers.{ringStatuses}
 use native.Mathlib.Nat.{sub-zero}
 use Rattle.page_lines.specs.Tally.{tallyText}
 use Rattle.page_slot.specs.Turn.{turnStatuses}
-use Rattle.page_slot.specs.Sectors.{lostAt, lostText, foundText, sectorsText}
+use Rattle.page_slot.specs.Sectors.{has, whereabouts, whyText, lostAt, lostText, foundText, sectorsText}
 
 -- ---- sectors that the ring has not
+in-neither : (a b : Bool) (u v : List ℕ) (s t : Text) → a ≡ false → b ≡ false → pick a [] (u ∷ v ∷ pick b s t) ≡ u ∷ v ∷ t
+in-neither a b u v s t e f = rw (e, f)
+
 module _ (p : Page) (ring turn window : List ℕ) (j : ℕ) where
   pub lost-ring : getD ring j 0 ≡ 1 → p ≡ writes p (lostAt ring turn window j)
   lost-ring e = rw (eqb-yes (getD ring j 0) 1 e) (nothing p)
 
-  module _ (n : getD ring j 0 ≡ 1 → ⊥) where
-    pub lost-neither : (getD window j 0 ≡ 1 → ⊥) → p ≡ writes p (lostAt ring turn window j)
-    lost-neither m = rw (eqb-no (getD ring j 0) 1 n, eqb-no (getD window j 0) 1 m) (nothing p)
+  module _ (n : getD ring j 0 ≡ 1 → ⊥) (q r : Page) (e : q ≡ writes p (ascii "; sector" ∷ numberText j ∷ [])) where
+    pub lost-neither : (getD window j 0 ≡ 1 → ⊥) → r ≡ writes q (whyText (getD ring j 0)) → r ≡ writes p (lostAt ring turn window j)
+    lost-neither m f =
+        then p q r (ascii "; sector" ∷ numberText j ∷ []) (whyText (getD ring j 0)) e f
+        ∙ sym
+        (ap (writes p)
+        (in-neither (has ring j) (has window j) (ascii "; sector") (numberText j) (whereabouts turn j ∷ []) (whyText (getD ring j 0))
+        (eqb-no (getD ring j 0) 1 n) (eqb-no (getD window j 0) 1 m)))
 
-    module _ (q r : Page) (w : getD window j 0 ≡ 1) (e : q ≡ writes p (ascii "; sector" ∷ numberText j ∷ [])) where
+    module _ (w : getD window j 0 ≡ 1) where
       pub lost-across : getD turn j 0 ≡ 1 → r ≡ writes q (ascii " lost across the join" ∷ []) → r ≡ writes p (lostAt ring turn window j)
       lost-across t f =
           rw (eqb-no (getD ring j 0) 1 n, eqb-yes (getD window j 0) 1 w, eqb-yes (getD turn j 0) 1 t)
@@ -40,11 +50,12 @@ pub all-lost : (p q : Page) (ring turn window : List ℕ) (j : ℕ) → j ≡ le
 unfolding lostText
 all-lost p q ring turn window j n e = rw (← n) e
 
-pub found-put : (p q r s : Page) (ring turn window : List ℕ) → q ≡ writes p (tallyText (ascii " ring") ring)
-    → r ≡ writes q (tallyText (ascii " window") window) → s ≡ writes r (lostText ring turn window) → s ≡ writes p (foundText ring turn window)
+pub found-put : (p q r s : Page) (ring turn window : List ℕ) → q ≡ writes p (tallyText false (ascii " ring") ring)
+    → r ≡ writes q (tallyText false (ascii " window") window) → s ≡ writes r (lostText ring turn window) → s ≡ writes p
+    (foundText ring turn window)
 found-put p q r s ring turn window e f g =
-    then p q s (tallyText (ascii " ring") ring) (tallyText (ascii " window") window ++ lostText ring turn window) e
-    (then q r s (tallyText (ascii " window") window) (lostText ring turn window) f g)
+    then p q s (tallyText false (ascii " ring") ring) (tallyText false (ascii " window") window ++ lostText ring turn window) e
+    (then q r s (tallyText false (ascii " window") window) (lostText ring turn window) f g)
 
 -- the same, where the statuses are known by another name
 pub sectors-put : (p q : Page) (rs ts ws window : List ℕ) (span track : ℕ) → rs ≡ ringStatuses (take (span - 0) window) track

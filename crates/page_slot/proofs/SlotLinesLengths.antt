@@ -46,7 +46,7 @@ line-long window slot zone w z l =
       append-long sectors (ascii "\n" ∷ []),
       name-long slot l,
       span-long window zone w z,
-      pick-ind (Within 900) (isWhole slot) (sectorsText window (chosen window zone) (trackOf slot)) []
+      pick-ind (Within 1100) (isWhole slot) (sectorsText window (chosen window zone) (trackOf slot)) []
           (λ e. sectors-long window (chosen window zone) (trackOf slot)) (λ e. omega arith),
     )
 

@@ -2,21 +2,22 @@
 use mathlib.Core.List.{List, [], _∷_, _++_}
 use Prim.Native.Nat.{ℕ, _≤_, _<_}
 use native.Mathlib.Omega.{arith}
-use mathlib.Core.Bool.{_&&_, not}
-use lib.ListN.{length, take, length-append}
+use mathlib.Core.Path.{refl}
+use mathlib.Core.Bool.{false}
+use lib.ListN.{length, getD, take, length-append}
 use Rattle.geometry.proofs.ZoneLaws.{sectors-of}
-use Rattle.page.specs.Wording.{numberText}
 use Rattle.base.specs.Words.{ascii}
 use Rattle.page.specs.Page.{together, allOf}
 use Rattle.page.proofs.PageLaws.{append-long, together-long, Within}
 use Rattle.track_read.specs.Answers.{ringStatuses}
 use Rattle.track_read.proofs.StatusLaws.{ring-count}
-use Rattle.base.proofs.Picks.{pick-ind}
+use Rattle.base.proofs.Picks.{pick-ind, never}
 use Rattle.page_text.proofs.DecimalLaws.{decimal-width}
 use Rattle.page_lines.specs.Tally.{tallyText}
+use Rattle.page_status.proofs.MeaningLengths.{name-long}
 use Rattle.page_lines.proofs.TallyLengths.{tally-long}
 use Rattle.page_slot.specs.Turn.{turnStatuses}
-use Rattle.page_slot.specs.Sectors.{has, whereabouts, lostAt, lostText, foundText, sectorsText}
+use Rattle.page_slot.specs.Sectors.{has, whereabouts, whyText, lostAt, lostText, foundText, sectorsText}
 
 where-long : (turn : List ℕ) (j : ℕ) → length (whereabouts turn j) ≤ 21
 where-long turn j =
@@ -26,23 +27,32 @@ where-long turn j =
 lost-at-long : (ring turn window : List ℕ) (j : ℕ) → j < 21 → Within 32 (lostAt ring turn window j)
 unfolding allOf
 lost-at-long ring turn window j h =
-    pick-ind (Within 32) (not (has ring j) && has window j) (ascii "; sector" ∷ numberText j ∷ whereabouts turn j ∷ []) []
-    (λ e. simp length-append (omega (arith, decimal-width 1 j (omega arith), where-long turn j))) (λ e. omega arith)
+    pick-ind (Within 32) (has ring j) [] _ (λ e. omega arith)
+    (λ e. simp length-append
+    (omega (
+      arith,
+      decimal-width 1 j (omega arith),
+      pick-ind (Within 21) (has window j) (whereabouts turn j ∷ []) (whyText (getD ring j 0))
+          (λ f. simp length-append (omega (arith, where-long turn j)))
+          (λ f. simp length-append (omega (arith, name-long (getD ring j 0)))),
+    )))
 
-found-long : (ring turn window : List ℕ) → length ring ≤ 21 → length window ≤ 21 → Within 900 (foundText ring turn window)
+found-long : (ring turn window : List ℕ) → length ring ≤ 21 → length window ≤ 21 → Within 1100 (foundText ring turn window)
 unfolding lostText
 found-long ring turn window r w =
     let l = together-long 32 (lostAt ring turn window) (length ring) (λ j h. lost-at-long ring turn window j (omega arith)) in
+    let one = tallyText false (ascii " ring") ring in
+    let two = tallyText false (ascii " window") window in
     omega (
       arith,
-      append-long (tallyText (ascii " ring") ring) (tallyText (ascii " window") window ++ together (length ring) (lostAt ring turn window)),
-      append-long (tallyText (ascii " window") window) (together (length ring) (lostAt ring turn window)),
-      tally-long (ascii " ring") ring r,
-      tally-long (ascii " window") window w,
+      append-long one (two ++ together (length ring) (lostAt ring turn window)),
+      append-long two (together (length ring) (lostAt ring turn window)),
+      tally-long false ring (λ e. never _ false e refl) r (ascii " ring"),
+      tally-long false window (λ e. never _ false e refl) w (ascii " window"),
       l,
     )
 
-pub sectors-long : (window : List ℕ) (span track : ℕ) → Within 900 (sectorsText window span track)
+pub sectors-long : (window : List ℕ) (span track : ℕ) → Within 1100 (sectorsText window span track)
 unfolding sectorsText
 sectors-long window span track =
     let s = sectors-of track in

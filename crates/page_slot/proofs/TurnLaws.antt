@@ -20,22 +20,22 @@ use Rattle.ring.specs.Bit.{bitAt}
 use Rattle.scan.specs.declared.SectorRecord.{SectorRecord}
 use Rattle.scan.specs.Scan.{recordsFrom}
 use Rattle.scan.proofs.NextLaws.{NextIs}
-use Rattle.track_read.specs.Reading.{Handed, Given, NotGiven, firstOf, statusOf}
-use Rattle.track_read.proofs.Keeping.{first-other}
-use Rattle.page_slot.specs.Turn.{turnRecords, turnStatuses}
+use Rattle.track_read.specs.Reading.{Handed, Given, NotGiven, firstOf}
+use Rattle.track_read.proofs.FirstLaws.{first-other}
+use Rattle.page_slot.specs.Turn.{thereOf, turnRecords, turnStatuses}
 
 -- a sector that has a record is handed out
-own : (j : ℕ) (r : SectorRecord) → r .sector ≡ j → (l : List SectorRecord) → statusOf (firstOf j (l ++ (r ∷ []))) ≡ 1
+own : (j : ℕ) (r : SectorRecord) → r .sector ≡ j → (l : List SectorRecord) → thereOf (firstOf j (l ++ (r ∷ []))) ≡ 1
 unfolding firstOf
-own j r e [] = ap (λ (b : Bool). statusOf (pick b (Given (r .payload)) NotGiven)) (eqb-yes (r .sector) j e)
+own j r e [] = ap (λ (b : Bool). thereOf (pick b (Given (r .payload)) NotGiven)) (eqb-yes (r .sector) j e)
 own j r e (q ∷ l) = go (eqb (q .sector) j) (own j r e l)
   where
-    go : (b : Bool) → statusOf (firstOf j (l ++ (r ∷ []))) ≡ 1 → statusOf (pick b (Given (q .payload)) (firstOf j (l ++ (r ∷ [])))) ≡ 1
+    go : (b : Bool) → thereOf (firstOf j (l ++ (r ∷ []))) ≡ 1 → thereOf (pick b (Given (q .payload)) (firstOf j (l ++ (r ∷ [])))) ≡ 1
     go true ih = refl
     go false ih = ih
 
 abbrev statusBy : List SectorRecord → ℕ → ℕ
-statusBy done j = statusOf (firstOf j done)
+statusBy done j = thereOf (firstOf j done)
 
 -- the records `done` are passed, the scan stands at `bit`, and `part` tells of those passed
 pub record Turning (window : List ℕ) (span track : ℕ) (part : List ℕ) (bit : ℕ) : Type 0 where
@@ -70,7 +70,7 @@ module _ (window : List ℕ) (span track : ℕ) where
           told = ap (λ (l : List ℕ). set l (r .sector) 1) (t .told)
               ∙ tab-put (sectorsOf track) (r .sector) 1 (statusBy (t .done)) (statusBy (t .done ++ (r ∷ []))) (i .sector)
               (own (r .sector) r refl (t .done))
-              (λ j d. ap (λ (y : Handed). statusOf y) (first-other j r (t .done) (λ e. d (sym e))));
+              (λ j d. ap (λ (y : Handed). thereOf y) (first-other j r (t .done) (λ e. d (sym e))));
         }
 
     pub turn-ends : recordsFrom (bitAt window) track (8 * span) bit ≡ [] → part ≡ turnStatuses window span track

@@ -1,6 +1,7 @@
--- The sectors that are found in the ring recovered from a window, and in the whole window; and where those are that the ring has not.
+-- The sectors that are found in the ring recovered from a window, and in the whole window; and of those that the ring has not where they
+-- are, or why they do not read.
 use Prim.Native.Nat.{ℕ}
-use mathlib.Core.Bool.{Bool, _&&_, not}
+use mathlib.Core.Bool.{Bool, false}
 use mathlib.Core.List.{List, [], _∷_, _++_}
 use lib.Dec.{eqb}
 use lib.ListN.{length, getD, take}
@@ -10,6 +11,7 @@ use Rattle.base.specs.Words.{ascii}
 use Rattle.page.specs.Page.{Text, together}
 use Rattle.track_read.specs.Answers.{ringStatuses}
 use Rattle.page_lines.specs.Tally.{tallyText}
+use Rattle.page_status.specs.Meanings.{statusName}
 use Rattle.page_slot.specs.Turn.{turnStatuses}
 
 -- status 1: the sector is found
@@ -21,16 +23,21 @@ has statuses j = eqb (getD statuses j 0) 1
 abbrev pub whereabouts : List ℕ → ℕ → List ℕ
 whereabouts turn j = pick (has turn j) (ascii " lost across the join") (ascii " only behind the span")
 
+-- one that the window has not either: why, by its status in the ring
+abbrev pub whyText : ℕ → Text
+whyText status = ascii ": " ∷ statusName status ∷ []
+
 abbrev pub lostAt : List ℕ → List ℕ → List ℕ → ℕ → Text
 lostAt ring turn window j =
-    pick (not (has ring j) && has window j) (ascii "; sector" ∷ numberText j ∷ whereabouts turn j ∷ []) []
+    pick (has ring j) []
+    (ascii "; sector" ∷ numberText j ∷ pick (has window j) (whereabouts turn j ∷ []) (whyText (getD ring j 0)))
 
 unfoldable pub lostText : List ℕ → List ℕ → List ℕ → Text
 lostText ring turn window = together (length ring) (lostAt ring turn window)
 
 -- the sectors of a track, by their statuses in the ring, in its turn, and in the window
 abbrev pub foundText : List ℕ → List ℕ → List ℕ → Text
-foundText ring turn window = tallyText (ascii " ring") ring ++ (tallyText (ascii " window") window ++ lostText ring turn window)
+foundText ring turn window = tallyText false (ascii " ring") ring ++ (tallyText false (ascii " window") window ++ lostText ring turn window)
 
 -- the ring is the first `span` bytes of the window
 unfoldable pub sectorsText : List ℕ → ℕ → ℕ → Text

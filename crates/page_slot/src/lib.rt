@@ -1,5 +1,6 @@
 // The line of a slot of a NIB file, put on a lent page from a place on: the span that is taken for one turn and what speaks for it, the
-// sectors that are found in the ring so cut and in the whole window, and where those are that the ring has not.
+// sectors that are found in the ring so cut and in the whole window, and of those that the ring has not where they are, or why they do
+// not read.
 ghost use mathlib.Core.Path.{_≡_};
 ghost use Prim.Native.Nat.{_<_, _≤_};
 ghost use lib.ListN.{length};
@@ -8,7 +9,7 @@ ghost use Rattle.page_slot.specs.Span.{spanText};
 ghost use Rattle.geometry.specs.Zones.{sectorsOf};
 ghost use Rattle.ring.specs.Bit.{IsRing};
 ghost use Rattle.page_slot.specs.Turn.{turnStatuses};
-ghost use Rattle.page_slot.specs.Sectors.{lostAt, lostText, foundText, sectorsText};
+ghost use Rattle.page_slot.specs.Sectors.{whyText, lostAt, lostText, foundText, sectorsText};
 ghost use mathlib.Core.List.{[]};
 ghost use Rattle.base.specs.Choice.{pick};
 ghost use Rattle.page_slot.specs.Slots.{isWhole, trackOf, nameText, slotLine, slotText};
@@ -33,7 +34,7 @@ fn turn_statuses(window: &[u8], span: usize, track: u8, part: &mut [u8])
     ensures { λ r. ⌜ now (part .exit) ≡ turnStatuses (now (window .entry)) span track ⌝ }
 {
     let count = part.len();
-    base::fill(part, 0, count, track_read::MISSING);
+    base::fill(part, 0, count, track_read::NO_HEADER);
     let end = 8 * span;
     let mut bit: usize = 0;
     'scan: loop {
@@ -47,7 +48,15 @@ fn turn_statuses(window: &[u8], span: usize, track: u8, part: &mut [u8])
     }
 }
 
-// A sector that the window has and the ring has not, and where it is.
+// Why a sector does not read.
+fn put_why(page: &mut [u8], at: usize, status: u8) -> usize
+    ensures { λ r. ⌜ sheet (now (page .exit)) r ≡ writes (sheet (now (page .entry)) at) (whyText status) ⌝ }
+{
+    let behind = page::words(page, at, b": ");
+    page_status::put_name(page, behind, status)
+}
+
+// A sector that the ring has not: where the window has it, or why it does not read.
 fn put_lost_at(
     page: &mut [u8],
     at: usize,
@@ -63,10 +72,10 @@ fn put_lost_at(
     if ring[j] == 1 {
         return at;
     }
-    if window[j] != 1 {
-        return at;
-    }
     let behind = page::counted(page, at, b"; sector", j as u64);
+    if window[j] != 1 {
+        return put_why(page, behind, ring[j]);
+    }
     if turn[j] == 1 {
         return page::words(page, behind, b" lost across the join");
     }
@@ -93,8 +102,8 @@ fn put_found(page: &mut [u8], at: usize, ring: &[u8], turn: &[u8], window: &[u8]
     ensures { λ r. ⌜ sheet (now (page .exit)) r ≡ writes (sheet (now (page .entry)) at)
         (foundText (now (ring .entry)) (now (turn .entry)) (now (window .entry))) ⌝ }
 {
-    let a = page_lines::tally(page, at, b" ring", ring);
-    let b = page_lines::tally(page, a, b" window", window);
+    let a = page_lines::tally(page, at, b" ring", ring, false);
+    let b = page_lines::tally(page, a, b" window", window, false);
     put_lost(page, b, ring, turn, window)
 }
 

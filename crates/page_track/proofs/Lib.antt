@@ -1,2 +1,3 @@
 pub mod TrackLaws
+pub mod SideLaws
 pub mod TrackLinesLengths

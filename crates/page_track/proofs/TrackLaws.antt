@@ -14,13 +14,13 @@ use Rattle.page_track.specs.Tracks.{trackLine, ifShown}
 
 -- ---- the line of a track
 module _ (p q r : Page) (track : ℕ) (statuses : List ℕ) (e : q ≡ writes p (ascii "track" ∷ numberText track ∷ [])) where
-  pub line-there : (s : Page) → anyNonzero statuses ≡ true → r ≡ writes q (tallyText (ascii " reads") statuses)
+  pub line-there : (s : Page) → anyNonzero statuses ≡ true → r ≡ writes q (tallyText true (ascii " reads") statuses)
       → s ≡ writes r (ascii "\n" ∷ []) → s ≡ writes p (trackLine track statuses)
   unfolding trackLine
   line-there s a f g =
       rw a
-      (then p q s (ascii "track" ∷ numberText track ∷ []) (tallyText (ascii " reads") statuses ++ (ascii "\n" ∷ [])) e
-      (then q r s (tallyText (ascii " reads") statuses) (ascii "\n" ∷ []) f g))
+      (then p q s (ascii "track" ∷ numberText track ∷ []) (tallyText true (ascii " reads") statuses ++ (ascii "\n" ∷ [])) e
+      (then q r s (tallyText true (ascii " reads") statuses) (ascii "\n" ∷ []) f g))
 
   pub line-absent : anyNonzero statuses ≡ false → r ≡ writes q (ascii " absent\n" ∷ []) → r ≡ writes p (trackLine track statuses)
   unfolding trackLine

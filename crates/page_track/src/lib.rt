@@ -1,7 +1,20 @@
-// The line of a track of an image, put on a lent page from a place on; the place behind it is answered.
+// The lines of an image's tracks, put on a lent page from a place on; the place behind them is answered.
 ghost use mathlib.Core.Path.{_≡_};
 ghost use Rattle.page.specs.Page.{sheet, writes};
-ghost use Rattle.page_track.specs.Tracks.{trackLine, ifShown, trackText};
+ghost use Rattle.image_statuses.specs.Statuses.{statusesOf};
+ghost use Rattle.page_track.specs.Tracks.{trackLine, ifShown, trackText, linesText, sideText};
+ghost use Rattle.page_track.specs.Inside.{noted, notedTo};
+
+// Each status is marked.
+fn note(statuses: &[u8], met: &mut [bool; 256])
+    ensures { λ r. ⌜ now (met .exit) ≡ noted (now (statuses .entry)) (now (met .entry)) ⌝ }
+{
+    let mut j: usize = 0;
+    while j < statuses.len() {
+        met[statuses[j] as usize] = true;
+        j += 1;
+    }
+}
 
 // The line of a track, by its statuses.
 fn put_statuses(page: &mut [u8], at: usize, track: u8, statuses: &[u8]) -> usize
@@ -9,7 +22,7 @@ fn put_statuses(page: &mut [u8], at: usize, track: u8, statuses: &[u8]) -> usize
 {
     let a = page::counted(page, at, b"track", track as u64);
     if base::any_nonzero(statuses) {
-        let b = page_lines::tally(page, a, b" reads", statuses);
+        let b = page_lines::tally(page, a, b" reads", statuses, true);
         return page::words(page, b, b"\n");
     }
     page::words(page, a, b" absent\n")
@@ -25,12 +38,36 @@ fn put_if_shown(page: &mut [u8], at: usize, track: u8, statuses: &[u8]) -> usize
     at
 }
 
-// The line of a track of an image.
-pub fn put_track(page: &mut [u8], at: usize, image: &[u8], track: u8) -> usize
+// The line of a track of an image; its statuses are marked.
+fn put_track(page: &mut [u8], at: usize, image: &[u8], track: u8, met: &mut [bool; 256]) -> usize
     ensures { λ r. ⌜ sheet (now (page .exit)) r ≡ writes (sheet (now (page .entry)) at) (trackText (now (image .entry)) track) ⌝ }
+    ensures { λ r. ⌜ now (met .exit) ≡ noted (statusesOf (now (image .entry)) track) (now (met .entry)) ⌝ }
 {
     let mut statuses = [0u8; 21];
     image_statuses::track_statuses(image, track, &mut statuses);
     let count = geometry::sectors_per_track(track) as usize;
+    note(page::so_far(&statuses, count), met);
     put_if_shown(page, at, track, page::so_far(&statuses, count))
+}
+
+fn put_lines(page: &mut [u8], at: usize, image: &[u8], met: &mut [bool; 256]) -> usize
+    ensures { λ r. ⌜ sheet (now (page .exit)) r ≡ writes (sheet (now (page .entry)) at) (linesText (now (image .entry)) 42) ⌝ }
+    ensures { λ r. ⌜ now (met .exit) ≡ notedTo (now (image .entry)) 42 (now (met .entry)) ⌝ }
+{
+    let mut behind = at;
+    let mut track: u8 = 0;
+    while track < image_statuses::HIGHEST_TRACK {
+        track += 1;
+        behind = put_track(page, behind, image, track, met);
+    }
+    behind
+}
+
+// The lines of all tracks of an image, and what each number in them means.
+pub fn put_side(page: &mut [u8], at: usize, image: &[u8]) -> usize
+    ensures { λ r. ⌜ sheet (now (page .exit)) r ≡ writes (sheet (now (page .entry)) at) (sideText (now (image .entry))) ⌝ }
+{
+    let mut met = [false; 256];
+    let behind = put_lines(page, at, image, &mut met);
+    page_status::put_legend(page, behind, &met)
 }

@@ -1,5 +1,5 @@
 // Built tracks with one stretch forced to zero, read from many bits: what became of each sector, counted. What it must
-// write was written by the original (compare/README.md).
+// write was written by the original, the statuses by the model over it (compare/README.md).
 ghost use mathlib.Core.Path.{_≡_};
 ghost use Prim.Native.Nat.{_*_, _≤_, _<_};
 ghost use Rattle.geometry.specs.Zones.{zoneOf, sectorsOf, capacityOf, slotStart};
@@ -88,6 +88,22 @@ fn counted(c: Counts, fate: Fate) -> Counts {
         Fate::Other => next.other = more(c.other, true),
     }
     next
+}
+
+// Is it the status of a missing sector?
+fn is_missing(status: u8) -> bool {
+    match status {
+        2 | 3 | 4 | 5 | 9 => true,
+        _ => false,
+    }
+}
+
+// Has a sector of this code, where the stretch left it alone, its code for its status? Of codes 2 and 3 this is not so.
+fn keeps_status(code: u8) -> bool {
+    match code {
+        4 | 5 | 9 => true,
+        _ => false,
+    }
 }
 
 fn is_spoiled(code: u8) -> bool {
@@ -188,8 +204,13 @@ fn sector_fate(cut: Cut, sector: usize, payloads: &[u8], out: &[u8], status: u8)
 {
     let read = bytes_of(out, sector);
     let own = status == 1 && base::same_bytes(read, bytes_of(payloads, sector));
-    let missing = status == 2 && !base::any_nonzero(read);
-    fate_of(is_spoiled(CODES[sector]), is_hit(cut, sector), own, missing)
+    let missing = is_missing(status) && !base::any_nonzero(read);
+    let code = CODES[sector];
+    let hit = is_hit(cut, sector);
+    if !hit && keeps_status(code) && status != code {
+        return Fate::Other;
+    }
+    fate_of(is_spoiled(code), hit, own, missing)
 }
 
 fn tally(c: Counts, cut: Cut, payloads: &[u8], out: &[u8], statuses: &[u8]) -> Counts

@@ -116,3 +116,12 @@ module _ {ring : List ℕ} {track start : ℕ} {rows₀ payloads₀ rows payload
         laid = i .laid ∙ ap (λ (y : ℕ). flat (i .done) ++ drop (2 * y) rows₀) (i .count);
         packed = i .packed ∙ ap (λ (y : ℕ). payloadsOf (i .done) ++ drop (256 * y) payloads₀) (i .count);
       })
+
+-- the same of equal lists and places
+pub as-listed : {ring : List ℕ} {track start : ℕ} {rows₀ payloads₀ rows rows′ payloads payloads′ : List ℕ} {bit bit′ n : ℕ}
+    → rows′ ≡ rows → payloads′ ≡ payloads → bit′ ≡ bit → Listing ring track start rows₀ payloads₀ rows payloads bit n
+    → Listing ring track start rows₀ payloads₀ rows′ payloads′ bit′ n
+as-listed {ring} {track} {start} {rows₀} {payloads₀} {rows} {rows′} {payloads} {payloads′} {bit} {bit′} {n} p q r l =
+    subst (λ (y : ℕ). Listing ring track start rows₀ payloads₀ rows′ payloads′ y n) (sym r)
+    (subst (λ (y : List ℕ). Listing ring track start rows₀ payloads₀ rows′ y bit n) (sym q)
+    (subst (λ (y : List ℕ). Listing ring track start rows₀ payloads₀ y payloads bit n) (sym p) l))

@@ -1,126 +1,276 @@
--- The ways round the loop that looks for the next record, by what the search and the decoders said.
-use mathlib.Core.Path.{_≡_, refl, sym, ap, ap₂, _∙_}
+-- A turn of the scan, by the visit as the code answers it.
+--     step-met                       what a visit comes to, by its verdicts
+--     turn-none                      the scan is over
+--     turn-record, turn-skip         a record, or the scan goes on
+--     turn-near                      where the places lie
+--     turn-visit, turn-over          the same of visits; turn-met, turn-long, turn-on: the visit itself, its payload, further on
+use mathlib.Core.Path.{_≡_, refl, sym, ap, _∙_, subst}
 use mathlib.Core.List.{List, [], _∷_}
-use Prim.Native.Nat.{ℕ, _+_, _-_, _<_}
+use Prim.Native.Nat.{ℕ, _+_, _-_, _≤_, _<_}
 use native.Mathlib.Omega.{arith}
-use mathlib.Core.Bool.{Bool, true, false}
-use lib.Dec.{eqb}
+use mathlib.Core.Bool.{Bool, true, false, _&&_}
+use lib.Dec.{eqb, ltb}
+use lib.ListN.{length, replicate, length-take, length-drop}
 use Rattle.base.specs.Choice.{pick}
 use Rattle.base.specs.Lists.{xorOf}
+use Rattle.geometry.specs.Zones.{sectorsOf}
 use Rattle.gcr.specs.Symbols.{Decoded, Bytes, IllegalAt}
 use Rattle.gcr.specs.Places.{decodeAt}
 use Rattle.scan_sync.specs.declared.SyncEnd.{SyncEnd}
 use Rattle.scan_sync.specs.declared.SyncEnd.the-variants.{At, Nothing}
-use Rattle.scan_visit.specs.declared.HeaderAt.the-variants.{Sector, No}
-use Rattle.scan_visit.specs.declared.DataAt.{DataAt}
-use Rattle.scan_visit.specs.declared.DataAt.the-variants.{Good, Another, Bad}
 use Rattle.scan_sync.specs.Sync.{syncEnd}
-use Rattle.scan_visit.specs.Visit.{DataFound, BadData, AnotherHeader, GoodData, HeaderFound, BadHeader, TrueHeader}
-use Rattle.scan_visit.specs.Visit.{FalseData, OtherMarker, at, payloadIn, byData, headerMark, byHeader, dataAt, bySync, dataFor, visit}
-use Rattle.scan.specs.Scan.{pastEnd, aRecord, recordsFrom}
-use Rattle.scan_visit.specs.Answers.{headerAnswer, DataBlock, dataAnswer}
-use Rattle.scan_visit.proofs.VisitLaws.{header→}
+use Rattle.scan_visit.specs.declared.HeaderAt.{HeaderAt}
+use Rattle.scan_visit.specs.declared.DataAt.{DataAt}
+use Rattle.scan_visit.specs.declared.DataAt.the-variants.{Nowhere, IllegalIn, OtherMark, WrongSum, Another, Good}
+use Rattle.scan_visit.specs.declared.Visited.{Visited}
+use Rattle.scan_visit.specs.Visit.{DataFound, BadData, AnotherHeader, GoodData, NoSync, IllegalData, OtherMarker, FalseData}
+use Rattle.scan_visit.specs.Visit.{HeaderFound, BadHeader, TrueHeader, IllegalHeader, NoHeader, FalseHeader, Visit, nextBit, afterHeader}
+use Rattle.scan_visit.specs.Visit.{at, payloadIn, byData, headerMark, trueSum, byHeader, dataAt, bySync, dataFor, visit}
+use Rattle.scan_visit.specs.Answers.{aBlock, Met, aVisit, dataAnswer, visitAnswer}
+use Rattle.scan_visit.proofs.GroupLaws.{length-bytes}
+use Rattle.scan_visit.proofs.MetLaws.{data-near}
+use Rattle.scan.specs.declared.NextVisit.{NextVisit}
+use Rattle.scan.specs.declared.NextPlace.{NextPlace}
+use Rattle.scan.specs.declared.SectorRecord.{SectorRecord}
+use Rattle.scan.specs.Scan.{nextSync, visits, aRecord, recordsFrom}
+use Rattle.scan.specs.Meeting.{VisitMet, visitWith, noVisit, visitAt, placeIn, bitAfter, sectorIn, noPlace, placeMet}
 use Rattle.scan.proofs.StepLaws.{Step, skip, good, stepData, stepHeader, stepOf}
-use Rattle.scan.proofs.ScanLaws.{next-yes, onStep}
+use Rattle.scan.proofs.ScanLaws.{next-found, visits-none, visits-turn, visit-on, onStep, skip-on}
 use Rattle.scan.proofs.NextLaws.{visit-at, no-sync, at-sync}
 
--- two verdicts that differ
-bad-another : Bad ≡ Another → ⊥
-bad-another e = let z : _≡_ {A = ℕ} 0 1 = cc in omega arith
+-- ---- what a visit comes to, by its verdicts
+abbrev byVerdict : ℕ → HeaderAt → DataAt → List ℕ → Step
+byVerdict h header Nowhere payload = skip (h + 1)
+byVerdict h header (IllegalIn d) payload = skip (h + 1)
+byVerdict h header (OtherMark d) payload = skip (h + 1)
+byVerdict h header (WrongSum d) payload = skip (h + 1)
+byVerdict h header (Another d) payload = skip (d + 1)
+byVerdict h header (Good d) payload = good (aRecord (sectorIn header) d payload)
 
-bad-good : Bad ≡ Good → ⊥
-bad-good e = let z : _≡_ {A = ℕ} 0 1 = cc in omega arith
+abbrev pub stepMet : ℕ → Met → Step
+stepMet h m = byVerdict h (m .header) (m .block .verdict) (m .block .payload)
 
-another-good : Another ≡ Good → ⊥
-another-good e = let z : _≡_ {A = ℕ} 0 1 = cc in omega arith
+pub step-met : (h : ℕ) (f : HeaderFound) → stepHeader h f ≡ stepMet h (visitAnswer f)
+step-met h (BadHeader fault) = refl
+step-met h (TrueHeader s i j (BadData NoSync)) = refl
+step-met h (TrueHeader s i j (BadData (IllegalData d k))) = refl
+step-met h (TrueHeader s i j (BadData (OtherMarker d))) = refl
+step-met h (TrueHeader s i j (BadData (FalseData d))) = refl
+step-met h (TrueHeader s i j (AnotherHeader d)) = refl
+step-met h (TrueHeader s i j (GoodData d p)) = refl
 
-said : {o a : DataBlock} {v : DataAt} → o ≡ a → o .verdict ≡ v → a .verdict ≡ v
-said e v = sym (ap (λ (y : DataBlock). y .verdict) e) ∙ v
+abbrev row : Visited → NextPlace
+row m = placeMet (m .header) (m .data)
 
--- the place that a data block names is its own
-abbrev Placed : ℕ → DataFound → Type 0
-Placed d (BadData fault) = Unit {0}
-Placed d (AnotherHeader a) = a ≡ d
-Placed d (GoodData a p) = a ≡ d
+false-true : false ≡ true → ⊥
+false-true e = let z : _≡_ {A = ℕ} 0 1 = cc in omega arith
 
-data-placed : (x : ℕ → ℕ) (d : ℕ) → Placed d (dataAt x d)
+met-good : (h : ℕ) (a : HeaderAt) (v : DataAt) (p : List ℕ) → placeMet a v .found ≡ true
+    → byVerdict h a v p ≡ good (aRecord (placeMet a v .sector) (placeMet a v .place) p)
+met-good h a Nowhere p e = absurd (false-true e)
+met-good h a (IllegalIn d) p e = absurd (false-true e)
+met-good h a (OtherMark d) p e = absurd (false-true e)
+met-good h a (WrongSum d) p e = absurd (false-true e)
+met-good h a (Another d) p e = absurd (false-true e)
+met-good h a (Good d) p e = refl
+
+met-skip : (h : ℕ) (a : HeaderAt) (v : DataAt) (p : List ℕ) → placeMet a v .found ≡ false → byVerdict h a v p ≡ skip (bitAfter h v)
+met-skip h a Nowhere p e = refl
+met-skip h a (IllegalIn d) p e = refl
+met-skip h a (OtherMark d) p e = refl
+met-skip h a (WrongSum d) p e = refl
+met-skip h a (Another d) p e = refl
+met-skip h a (Good d) p e = absurd (false-true (sym e))
+
+-- after a record the scan goes on behind its block
+pub record-bit : (h : ℕ) (a : HeaderAt) (v : DataAt) → placeMet a v .found ≡ true → bitAfter h v ≡ placeMet a v .place + 2600
+record-bit h a Nowhere e = absurd (false-true e)
+record-bit h a (IllegalIn d) e = absurd (false-true e)
+record-bit h a (OtherMark d) e = absurd (false-true e)
+record-bit h a (WrongSum d) e = absurd (false-true e)
+record-bit h a (Another d) e = absurd (false-true e)
+record-bit h a (Good d) e = refl
+
+-- ---- the place that a verdict names
+pub place-small : (a : HeaderAt) (v : DataAt) → placeMet a v .place ≤ placeIn v
+place-small a Nowhere = omega arith
+place-small a (IllegalIn d) = omega arith
+place-small a (OtherMark d) = omega arith
+place-small a (WrongSum d) = omega arith
+place-small a (Another d) = omega arith
+place-small a (Good d) = omega arith
+
+placed : (x : ℕ → ℕ) (d : ℕ) → placeIn (dataAnswer (dataAt x d) .verdict) ≡ d
 unfolding dataAt
-data-placed x d = go (headerMark (decodeAt x d 4))
+placed x d = go (headerMark (decodeAt x d 4))
   where
-    tests : (b : List ℕ) (t u : Bool) → Placed d (pick t (pick u (GoodData d (payloadIn b)) (BadData (FalseData d)))
-        (BadData (OtherMarker d)))
+    tests : (b : List ℕ) (t u : Bool)
+        → placeIn (dataAnswer (pick t (pick u (GoodData d (payloadIn b)) (BadData (FalseData d))) (BadData (OtherMarker d))) .verdict) ≡ d
     tests b true true = refl
-    tests b true false = tt
-    tests b false u = tt
+    tests b true false = refl
+    tests b false u = refl
 
-    by : (o : Decoded) → Placed d (byData d o)
-    by (IllegalAt k) = tt
+    by : (o : Decoded) → placeIn (dataAnswer (byData d o) .verdict) ≡ d
+    by (IllegalAt k) = refl
     by (Bytes b) = tests b (eqb (at b 0) 7) (eqb (xorOf (payloadIn b)) (at b 257))
 
-    go : (m : Bool) → Placed d (pick m (AnotherHeader d) (byData d (decodeAt x d 260)))
+    go : (m : Bool) → placeIn (dataAnswer (pick m (AnotherHeader d) (byData d (decodeAt x d 260))) .verdict) ≡ d
     go true = refl
     go false = by (decodeAt x d 260)
 
--- the step that the answers tell
-false-header : (h : ℕ) (f : HeaderFound) → headerAnswer f ≡ No → stepHeader h f ≡ skip (h + 1)
-false-header h (BadHeader fault) e = refl
-false-header h (TrueHeader s i j f) e = absurd (let z : _≡_ {A = ℕ} 0 1 = cc in omega arith)
-
-true-header : (x : ℕ → ℕ) (track h s : ℕ) → headerAnswer (visit x track h .found) ≡ Sector s → stepOf (visit x track h) ≡ stepData h s
-    (dataFor x h)
-unfolding visit
-true-header x track h s e = by (byHeader track (dataFor x h) (decodeAt x h 8)) refl e
+data-in : (x : ℕ → ℕ) (h : ℕ) → placeIn (dataAnswer (dataFor x h) .verdict) < h + 848
+data-in x h = by (syncEnd x (h + 80) 768) refl
   where
-    by : (o : HeaderFound) → byHeader track (dataFor x h) (decodeAt x h 8) ≡ o → headerAnswer o ≡ Sector s → stepHeader h o ≡ stepData h
-        s (dataFor x h)
-    by (BadHeader fault) w e = absurd (let z : _≡_ {A = ℕ} 0 1 = cc in omega arith)
-    by (TrueHeader s′ i j f) w e = let q : s′ ≡ s = cc in ap₂ (stepData h) q (header→ x track h s′ i j f (dataFor x h) w .2)
+    by : (o : SyncEnd) → syncEnd x (h + 80) 768 ≡ o → placeIn (dataAnswer (bySync x o) .verdict) < h + 848
+    by Nothing w = omega arith
+    by (At d) w = subst (λ (y : ℕ). y < h + 848) (sym (placed x d)) (data-near x h d w)
 
-module _ (h s : ℕ) (o : DataBlock) where
-  bad-data : (f : DataFound) → o ≡ dataAnswer f → o .verdict ≡ Bad → stepData h s f ≡ skip (h + 1)
-  bad-data (BadData fault) e v = refl
-  bad-data (AnotherHeader d) e v = absurd (bad-another (sym (said e v)))
-  bad-data (GoodData d p) e v = absurd (bad-good (sym (said e v)))
+met-in : (x : ℕ → ℕ) (track h : ℕ) → placeIn (visitAnswer (visit x track h .found) .block .verdict) < h + 848
+unfolding visit
+met-in x track h = by (decodeAt x h 8)
+  where
+    tests : (b : List ℕ) (m u l : Bool)
+        → placeIn (visitAnswer (pick m (pick u (pick l (TrueHeader (at b 2) (at b 5) (at b 4) (dataFor x h)) (BadHeader NoHeader))
+        (BadHeader (FalseHeader (at b 2)))) (BadHeader NoHeader)) .block .verdict) < h + 848
+    tests b true true true = data-in x h
+    tests b true true false = omega arith
+    tests b true false l = omega arith
+    tests b false u l = omega arith
 
-  other-data : (d : ℕ) (f : DataFound) → Placed d f → o ≡ dataAnswer f → o .verdict ≡ Another → stepData h s f ≡ skip (d + 1)
-  other-data d (BadData fault) w e v = absurd (bad-another (said e v))
-  other-data d (AnotherHeader a) w e v = ap (λ (y : ℕ). skip (y + 1)) w
-  other-data d (GoodData a p) w e v = absurd (another-good (sym (said e v)))
+    by : (o : Decoded) → placeIn (visitAnswer (byHeader track (dataFor x h) o) .block .verdict) < h + 848
+    by (IllegalAt k) = omega arith
+    by (Bytes b) = tests b (eqb (at b 0) 8 && eqb (at b 3) track) (trueSum b) (ltb (at b 2) (sectorsOf track))
 
-  good-data : (d : ℕ) (f : DataFound) → Placed d f → o ≡ dataAnswer f → o .verdict ≡ Good → stepData h s f ≡ good
-      (aRecord s d (o .payload))
-  good-data d (BadData fault) w e v = absurd (bad-good (said e v))
-  good-data d (AnotherHeader a) w e v = absurd (another-good (said e v))
-  good-data d (GoodData a p) w e v =
-      ap₂ (λ (y : ℕ) (q : List ℕ). good (aRecord s y q)) w (sym (ap (λ (y : DataBlock). y .payload) e))
+-- ---- the payload has 256 bytes
+long : (d : ℕ) (o : Decoded) → ((b : List ℕ) → o ≡ Bytes b → length b ≡ 260) → length (dataAnswer (byData d o) .payload) ≡ 256
+long d (IllegalAt k) l = refl
+long d (Bytes b) l = tests (eqb (at b 0) 7) (eqb (xorOf (payloadIn b)) (at b 257))
+  where
+    tests : (t u : Bool)
+        → length (dataAnswer (pick t (pick u (GoodData d (payloadIn b)) (BadData (FalseData d))) (BadData (OtherMarker d))) .payload) ≡ 256
+    tests true true = simp (length-take, length-drop) (omega (arith, l b refl))
+    tests true false = refl
+    tests false u = refl
+
+data-long : (x : ℕ → ℕ) (h : ℕ) → length (dataAnswer (dataFor x h) .payload) ≡ 256
+unfolding dataAt
+data-long x h = by (syncEnd x (h + 80) 768)
+  where
+    go : (d : ℕ) (m : Bool) → length (dataAnswer (pick m (AnotherHeader d) (byData d (decodeAt x d 260))) .payload) ≡ 256
+    go d true = refl
+    go d false = long d (decodeAt x d 260) (λ b e. length-bytes x d 260 b e)
+
+    by : (o : SyncEnd) → length (dataAnswer (bySync x o) .payload) ≡ 256
+    by Nothing = refl
+    by (At d) = go d (headerMark (decodeAt x d 4))
+
+met-long : (x : ℕ → ℕ) (track h : ℕ) → length (visitAnswer (visit x track h .found) .block .payload) ≡ 256
+unfolding visit
+met-long x track h = by (decodeAt x h 8)
+  where
+    tests : (b : List ℕ) (m u l : Bool)
+        → length (visitAnswer (pick m (pick u (pick l (TrueHeader (at b 2) (at b 5) (at b 4) (dataFor x h)) (BadHeader NoHeader))
+        (BadHeader (FalseHeader (at b 2)))) (BadHeader NoHeader)) .block .payload) ≡ 256
+    tests b true true true = data-long x h
+    tests b true true false = refl
+    tests b true false l = refl
+    tests b false u l = refl
+
+    by : (o : Decoded) → length (visitAnswer (byHeader track (dataFor x h) o) .block .payload) ≡ 256
+    by (IllegalAt k) = refl
+    by (Bytes b) = tests b (eqb (at b 0) 8 && eqb (at b 3) track) (trueSum b) (ltb (at b 2) (sectorsOf track))
+
+-- where the scan goes on
+goes-on : (h : ℕ) (f : HeaderFound) → afterHeader h f ≡ bitAfter h (visitAnswer f .block .verdict)
+goes-on h (BadHeader fault) = refl
+goes-on h (TrueHeader s i j (BadData NoSync)) = refl
+goes-on h (TrueHeader s i j (BadData (IllegalData d k))) = refl
+goes-on h (TrueHeader s i j (BadData (OtherMarker d))) = refl
+goes-on h (TrueHeader s i j (BadData (FalseData d))) = refl
+goes-on h (TrueHeader s i j (AnotherHeader d)) = refl
+goes-on h (TrueHeader s i j (GoodData d p)) = refl
+
+after-visit : (x : ℕ → ℕ) (track h : ℕ) → nextBit (visit x track h) ≡ bitAfter h (visitAnswer (visit x track h .found) .block .verdict)
+unfolding visit
+after-visit x track h = goes-on h (visit x track h .found)
 
 -- ---- a turn at scan bit b
-module _ (x : ℕ → ℕ) (track end b : ℕ) (l : b < end) where
-  pub stops : syncEnd x b (end + pastEnd - b) ≡ Nothing → recordsFrom x track end b ≡ []
-  stops e = no-sync x track end b (next-yes x end b l ∙ e)
+module _ (x : ℕ → ℕ) (track end b : ℕ) (r : NextVisit) (p : List ℕ) (e : visitWith r p ≡ visitAt x track (nextSync x end b)) where
+  said : (o : SyncEnd) → visitWith r p ≡ visitAt x track o → r .found ≡ visitAt x track o .found
+  said o q = ap (λ (v : VisitMet). v .found) q
 
-  module _ (h : ℕ) (e : syncEnd x b (end + pastEnd - b) ≡ At h) where
-    goes : (v : Step) → stepOf (visit x track h) ≡ v → recordsFrom x track end b ≡ onStep v (recordsFrom x track end)
-    goes v w = at-sync x track end b h (next-yes x end b l ∙ e) ∙ ap (λ (s : Step). onStep s (recordsFrom x track end)) w
+  abbrev Over : Type 0
+  Over = (recordsFrom x track end b ≡ []) × (p ≡ replicate 256 0) × (row (r .met) ≡ noPlace)
 
-    pub no-header : headerAnswer (visit x track h .found) ≡ No → recordsFrom x track end b ≡ recordsFrom x track end (h + 1)
-    no-header f = goes (skip (h + 1)) (visit-at x track h ∙ false-header h (visit x track h .found) f)
+  pub turn-none : r .found ≡ false → (recordsFrom x track end b ≡ []) × (p ≡ replicate 256 0) × (row (r .met) ≡ noPlace)
+  turn-none n = by (nextSync x end b) refl e
+    where
+      by : (o : SyncEnd) → nextSync x end b ≡ o → visitWith r p ≡ visitAt x track o → Over
+      by Nothing w q = (
+        no-sync x track end b w,
+        ap (λ (v : VisitMet). v .met .block .payload) q,
+        ap (λ (v : VisitMet). placeMet (v .met .header) (v .met .block .verdict)) q,
+      )
+      by (At h) w q = absurd (false-true (sym n ∙ said (At h) q))
 
-    module _ (s : ℕ) (t : headerAnswer (visit x track h .found) ≡ Sector s) where
-      pub no-data : syncEnd x (h + 80) 768 ≡ Nothing → recordsFrom x track end b ≡ recordsFrom x track end (h + 1)
-      no-data f = goes (skip (h + 1)) (true-header x track h s t ∙ ap (λ (o : SyncEnd). stepData h s (bySync x o)) f)
+  pub turn-over : r .found ≡ false → visits x track end b ≡ []
+  turn-over n = by (nextSync x end b) refl e
+    where
+      by : (o : SyncEnd) → nextSync x end b ≡ o → visitWith r p ≡ visitAt x track o → visits x track end b ≡ []
+      by Nothing w q = visits-none x track end (end - b) b w
+      by (At h) w q = absurd (false-true (sym n ∙ said (At h) q))
 
-      module _ (d : ℕ) (f : syncEnd x (h + 80) 768 ≡ At d) (o : DataBlock) (g : o ≡ dataAnswer (dataAt x d)) where
-        at-data : stepOf (visit x track h) ≡ stepData h s (dataAt x d)
-        at-data = true-header x track h s t ∙ ap (λ (y : SyncEnd). stepData h s (bySync x y)) f
+  module _ (n : r .found ≡ true) where
+    at-place : (nextSync x end b ≡ At (r .place)) × (aVisit (r .met) p ≡ visitAnswer (visit x track (r .place) .found))
+    at-place = by (nextSync x end b) refl e
+      where
+        by : (o : SyncEnd) → nextSync x end b ≡ o → visitWith r p ≡ visitAt x track o
+            → (nextSync x end b ≡ At (r .place)) × (aVisit (r .met) p ≡ visitAnswer (visit x track (r .place) .found))
+        by Nothing w q = absurd (false-true (sym (said Nothing q) ∙ n))
+        by (At h) w q =
+            let here : r .place ≡ h = ap (λ (v : VisitMet). v .place) q in
+            (w ∙ ap At (sym here), ap (λ (v : VisitMet). v .met) q ∙ ap (λ (y : ℕ). visitAnswer (visit x track y .found)) (sym here))
 
-        pub bad-block : o .verdict ≡ Bad → recordsFrom x track end b ≡ recordsFrom x track end (h + 1)
-        bad-block v = goes (skip (h + 1)) (at-data ∙ bad-data h s o (dataAt x d) g v)
+    step-is : stepOf (visit x track (r .place)) ≡ byVerdict (r .place) (r .met .header) (r .met .data) p
+    step-is =
+        visit-at x track (r .place) ∙ step-met (r .place) (visit x track (r .place) .found) ∙ ap (stepMet (r .place)) (sym (at-place .1))
 
-        pub other-header : o .verdict ≡ Another → recordsFrom x track end b ≡ recordsFrom x track end (d + 1)
-        other-header v = goes (skip (d + 1)) (at-data ∙ other-data h s o d (dataAt x d) (data-placed x d) g v)
+    turned : (s : Step) → stepOf (visit x track (r .place)) ≡ s → recordsFrom x track end b ≡ onStep s (recordsFrom x track end)
+    turned s w = at-sync x track end b (r .place) (at-place .0) ∙ ap (λ (y : Step). onStep y (recordsFrom x track end)) w
 
-        pub good-block : o .verdict ≡ Good
-            → recordsFrom x track end b ≡ aRecord s d (o .payload) ∷ recordsFrom x track end (d + 2600)
-        good-block v = goes (good (aRecord s d (o .payload))) (at-data ∙ good-data h s o d (dataAt x d)
-            (data-placed x d) g v)
+    pub turn-near : (b < end) × (b < r .place) × (r .place < end + 16) × (placeIn (r .met .data) < end + 864)
+    turn-near =
+        let f = next-found x end b (r .place) (at-place .0) in
+        let l : placeIn (r .met .data) < r .place + 848 =
+        subst (λ (m : Met). placeIn (m .block .verdict) < r .place + 848) (sym (at-place .1)) (met-in x track (r .place)) in
+        (f .0, omega (arith, f .1 .1), omega (arith, f .0, f .1 .2), omega (arith, f .0, f .1 .2, l))
+
+    pub turn-record : row (r .met) .found ≡ true
+        → recordsFrom x track end b
+        ≡ aRecord (row (r .met) .sector) (row (r .met) .place) p ∷ recordsFrom x track end (row (r .met) .place + 2600)
+    turn-record g = turned _ (step-is ∙ met-good (r .place) (r .met .header) (r .met .data) p g)
+
+    pub turn-skip : row (r .met) .found ≡ false
+        → (recordsFrom x track end b ≡ recordsFrom x track end (bitAfter (r .place) (r .met .data)))
+        × (r .place < bitAfter (r .place) (r .met .data))
+    turn-skip g =
+        let s = step-is ∙ met-skip (r .place) (r .met .header) (r .met .data) p g in
+        (turned _ s, skip-on x track (r .place) _ s)
+
+    -- the visit itself
+    pub turn-met : aVisit (r .met) p ≡ visitAnswer (visit x track (r .place) .found)
+    turn-met = at-place .1
+
+    pub turn-long : length p ≡ 256
+    turn-long = ap (λ (m : Met). length (m .block .payload)) turn-met ∙ met-long x track (r .place)
+
+    after-is : nextBit (visit x track (r .place)) ≡ bitAfter (r .place) (r .met .data)
+    after-is = after-visit x track (r .place) ∙ ap (λ (m : Met). bitAfter (r .place) (m .block .verdict)) (sym turn-met)
+
+    pub turn-visit : visits x track end b ≡ visit x track (r .place) ∷ visits x track end (bitAfter (r .place) (r .met .data))
+    turn-visit =
+        visits-turn x track end b (r .place) (at-place .0)
+        ∙ ap (λ (y : ℕ). visit x track (r .place) ∷ visits x track end y) after-is
+
+    pub turn-on : r .place < bitAfter (r .place) (r .met .data)
+    turn-on = subst (λ (y : ℕ). r .place < y) after-is (visit-on x track (r .place))

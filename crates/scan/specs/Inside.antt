@@ -1,16 +1,10 @@
 -- What the functions inside this crate answer and leave.
 use Prim.Native.Nat.{ℕ, _*_}
-use mathlib.Core.Bool.{true}
 use mathlib.Core.Path.{_≡_}
 use mathlib.Core.List.{List, _++_}
 use lib.ListN.{length, drop}
 use Rattle.scan.specs.declared.SectorRecord.{SectorRecord}
-use Rattle.scan.specs.declared.NextPlace.{NextPlace}
 use Rattle.scan.specs.Answers.{flat, payloadsOf}
-
--- the answer of `next_into` where it finds one
-abbrev pub aNext : ℕ → ℕ → NextPlace
-aNext sector place = record { found = true; sector = sector; place = place }
 
 -- a list of records laid out: their rows and payloads in front, spare room kept
 pub record Listed (rs : List SectorRecord) (rows payloads rowsAfter payloadsAfter : List ℕ) (r : ℕ) : Type 0 where

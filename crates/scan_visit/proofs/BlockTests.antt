@@ -21,13 +21,13 @@ use Rattle.gcr.proofs.DecodeLaws.{decode-more, decode-stop}
 use Rattle.ring.specs.Bit.{bits, bitAt}
 use Rattle.gcr_blocks.specs.Answers.{isReadable, bytesIn}
 use Rattle.scan_visit.specs.declared.HeaderAt.{HeaderAt}
-use Rattle.scan_visit.specs.declared.HeaderAt.the-variants.{Sector, No}
-use Rattle.scan_visit.specs.declared.DataAt.the-variants.{Good, Another, Bad}
+use Rattle.scan_visit.specs.declared.HeaderAt.the-variants.{Illegal, No, FalseSum, Sector}
+use Rattle.scan_visit.specs.declared.DataAt.the-variants.{IllegalIn, OtherMark, WrongSum, Another, Good}
 use Rattle.scan_visit.specs.Visit.{DataFound, BadData, AnotherHeader, GoodData, OtherMarker, FalseData, NoSync}
 use Rattle.scan_visit.specs.Visit.{HeaderFound, BadHeader, TrueHeader, NoHeader, FalseHeader}
 use Rattle.scan_visit.specs.Visit.{at, payloadIn, byData, headerMark, dataAt, dataFor, trueSum, byHeader, visit}
-use Rattle.scan_visit.specs.Answers.{headerAnswer, DataBlock, dataAnswer}
-use Rattle.scan_visit.specs.Inside.{headerBy, withoutPayload, blockBy}
+use Rattle.scan_visit.specs.Answers.{headerAnswer, DataBlock, aBlock, dataAnswer}
+use Rattle.scan_visit.specs.Inside.{headerBy, withoutPayload}
 use Rattle.scan_visit.proofs.GroupLaws.{longer, at-place, read-bytes, read-illegal}
 
 -- ---- the header at h
@@ -51,21 +51,21 @@ module _ (x : ℕ → ℕ) (track h : ℕ) where
   header-bytes b e = header-any track (BadData NoSync) (dataFor x h) b ∙ sym
       (ap (λ (o : Decoded). headerAnswer (byHeader track (dataFor x h) o)) e)
 
-  pub header-illegal : (k : ℕ) → decodeAt x h 8 ≡ IllegalAt k → No ≡ headerAnswer (visit x track h .found)
+  pub header-illegal : (k : ℕ) → decodeAt x h 8 ≡ IllegalAt k → Illegal ≡ headerAnswer (visit x track h .found)
   unfolding visit
   header-illegal k e = sym (ap (λ (o : Decoded). headerAnswer (byHeader track (dataFor x h) o)) e)
 
 -- the header at bit s of byte i, by its two groups
 module _ (r : List ℕ) (track h i s : ℕ) (here : 8 * i + s ≡ h % bits r) (g : Decoded4)
     (e : g ≡ answer4 (decodeAt (bitAt r) (8 * i + s) 4)) where
-  pub first-illegal : g .ok ≡ false → No ≡ headerAnswer (visit (bitAt r) track h .found)
+  pub first-illegal : g .ok ≡ false → Illegal ≡ headerAnswer (visit (bitAt r) track h .found)
   first-illegal t =
       let f = read-illegal r i s h here g e t in
       header-illegal (bitAt r) track h (f .0) (longer (bitAt r) h 4 8 (f .0) (lit≤ tt) (f .1))
 
   module _ (t : g .ok ≡ true) (next : ℕ) (there : 8 * next + s ≡ (h + 40) % bits r) (g′ : Decoded4)
       (e′ : g′ ≡ answer4 (decodeAt (bitAt r) (8 * next + s) 4)) where
-    pub second-illegal : g′ .ok ≡ false → No ≡ headerAnswer (visit (bitAt r) track h .found)
+    pub second-illegal : g′ .ok ≡ false → Illegal ≡ headerAnswer (visit (bitAt r) track h .found)
     second-illegal t′ =
         let f = read-illegal r next s (h + 40) there g′ e′ t′ in
         header-illegal (bitAt r) track h (8 + f .0)
@@ -108,7 +108,7 @@ module _ (track : ℕ) (a b : List ℕ) (four : length a ≡ 4) where
           by-tests ∙ ap₂ (λ (m t : Bool). tests m t (eqb (at a 1) sum) (ltb (at a 2) (sectorsOf track))) (eqb-yes (at a 0) 8 p)
           (eqb-yes (at a 3) track q)
 
-      pub header-sum : at a 1 ≢ sum → No ≡ headerBy track (a ++ b)
+      pub header-sum : at a 1 ≢ sum → FalseSum (at a 2) ≡ headerBy track (a ++ b)
       header-sum u =
           sym (marked ∙ ap (λ (c : Bool). tests true true c (ltb (at a 2) (sectorsOf track))) (eqb-no (at a 1) sum u))
 
@@ -117,61 +117,48 @@ module _ (track : ℕ) (a b : List ℕ) (four : length a ≡ 4) where
         header-high l =
             sym (marked ∙ ap₂ (λ (c h : Bool). tests true true c h) (eqb-yes (at a 1) sum u) (ltb-no (at a 2) (sectorsOf track) l))
 
-        pub header-true : at a 2 < sectorsOf track → Sector (at a 2) ≡ headerBy track (a ++ b)
+        pub header-true : at a 2 < sectorsOf track → Sector (at a 2) (at b 1) (at b 0) ≡ headerBy track (a ++ b)
         header-true l =
             sym (marked ∙ ap₂ (λ (c h : Bool). tests true true c h) (eqb-yes (at a 1) sum u) (ltb-yes (at a 2) (sectorsOf track) l))
 
--- ---- the data block at d
-block-any : (d e : ℕ) (o : Decoded) → dataAnswer (byData d o) ≡ dataAnswer (byData e o)
-block-any d e (IllegalAt k) = refl
-block-any d e (Bytes b) = go (eqb (at b 0) 7) (eqb (xorOf (payloadIn b)) (at b 257))
-  where
-    by : ℕ → Bool → Bool → DataFound
-    by d t u = pick t (pick u (GoodData d (payloadIn b)) (BadData (FalseData d))) (BadData (OtherMarker d))
+-- ---- the data block at d, by what its 260 bytes decode to, test by test
+module _ (d : ℕ) where
+  pub block-illegal : (o : Decoded) → isReadable o ≡ false → withoutPayload (IllegalIn d) ≡ dataAnswer (byData d o)
+  block-illegal (IllegalAt k) e = refl
+  block-illegal (Bytes b) e = absurd (let z : _≡_ {A = ℕ} 0 1 = cc in omega arith)
 
-    go : (t u : Bool) → dataAnswer (by d t u) ≡ dataAnswer (by e t u)
-    go true true = refl
-    go true false = refl
-    go false u = refl
+  module _ (o : Decoded) (e : isReadable o ≡ true) where
+    abbrev b : List ℕ
+    b = bytesIn o
 
--- a data block by what its 260 bytes decode to, test by test
-pub block-illegal : (o : Decoded) → isReadable o ≡ false → withoutPayload Bad ≡ dataAnswer (byData 0 o)
-block-illegal (IllegalAt k) e = refl
-block-illegal (Bytes b) e = absurd (let z : _≡_ {A = ℕ} 0 1 = cc in omega arith)
+    abbrev verdict : Bool → Bool → DataBlock
+    verdict t u = dataAnswer (pick t (pick u (GoodData d (payloadIn b)) (BadData (FalseData d))) (BadData (OtherMarker d)))
 
-module _ (o : Decoded) (e : isReadable o ≡ true) where
-  abbrev b : List ℕ
-  b = bytesIn o
+    by-bytes : dataAnswer (byData d o) ≡ verdict (eqb (at b 0) 7) (eqb (xorOf (payloadIn b)) (at b 257))
+    by-bytes = go o e
+      where
+        go : (o : Decoded) → isReadable o ≡ true → dataAnswer (byData d o) ≡ dataAnswer (byData d (Bytes (bytesIn o)))
+        go (Bytes c) e = refl
+        go (IllegalAt k) e = absurd (let z : _≡_ {A = ℕ} 0 1 = cc in omega arith)
 
-  abbrev verdict : Bool → Bool → DataBlock
-  verdict t u = dataAnswer (pick t (pick u (GoodData 0 (payloadIn b)) (BadData (FalseData 0))) (BadData (OtherMarker 0)))
+    pub block-mark : at b 0 ≢ 7 → withoutPayload (OtherMark d) ≡ dataAnswer (byData d o)
+    block-mark p = sym (by-bytes ∙ ap (λ (t : Bool). verdict t (eqb (xorOf (payloadIn b)) (at b 257))) (eqb-no (at b 0) 7 p))
 
-  by-bytes : dataAnswer (byData 0 o) ≡ verdict (eqb (at b 0) 7) (eqb (xorOf (payloadIn b)) (at b 257))
-  by-bytes = go o e
-    where
-      go : (o : Decoded) → isReadable o ≡ true → dataAnswer (byData 0 o) ≡ blockBy (bytesIn o)
-      go (Bytes c) e = refl
-      go (IllegalAt k) e = absurd (let z : _≡_ {A = ℕ} 0 1 = cc in omega arith)
+    pub block-sum : at b 0 ≡ 7 → xorOf (payloadIn b) ≢ at b 257 → withoutPayload (WrongSum d) ≡ dataAnswer (byData d o)
+    block-sum p q = sym (by-bytes ∙ ap₂ (λ (t u : Bool). verdict t u) (eqb-yes (at b 0) 7 p) (eqb-no (xorOf (payloadIn b)) (at b 257) q))
 
-  pub block-mark : at b 0 ≢ 7 → withoutPayload Bad ≡ dataAnswer (byData 0 o)
-  block-mark p = sym (by-bytes ∙ ap (λ (t : Bool). verdict t (eqb (xorOf (payloadIn b)) (at b 257))) (eqb-no (at b 0) 7 p))
-
-  pub block-sum : at b 0 ≡ 7 → xorOf (payloadIn b) ≢ at b 257 → withoutPayload Bad ≡ dataAnswer (byData 0 o)
-  block-sum p q = sym (by-bytes ∙ ap₂ (λ (t u : Bool). verdict t u) (eqb-yes (at b 0) 7 p) (eqb-no (xorOf (payloadIn b)) (at b 257) q))
-
-  pub block-good : at b 0 ≡ 7 → xorOf (payloadIn b) ≡ at b 257
-      → (record { verdict = Good; payload = payloadIn b }) ≡ dataAnswer (byData 0 o)
-  block-good p q = sym (by-bytes ∙ ap₂ (λ (t u : Bool). verdict t u) (eqb-yes (at b 0) 7 p) (eqb-yes (xorOf (payloadIn b)) (at b 257) q))
+    pub block-good : at b 0 ≡ 7 → xorOf (payloadIn b) ≡ at b 257 → aBlock (Good d) (payloadIn b) ≡ dataAnswer (byData d o)
+    block-good p q = sym (by-bytes ∙ ap₂ (λ (t u : Bool). verdict t u) (eqb-yes (at b 0) 7 p) (eqb-yes (xorOf (payloadIn b)) (at b 257) q))
 
 module _ (x : ℕ → ℕ) (d : ℕ) where
   -- the marker, in the first group
-  pub data-illegal : (k : ℕ) → decodeAt x d 4 ≡ IllegalAt k → withoutPayload Bad ≡ dataAnswer (dataAt x d)
+  pub data-illegal : (k : ℕ) → decodeAt x d 4 ≡ IllegalAt k → withoutPayload (IllegalIn d) ≡ dataAnswer (dataAt x d)
   unfolding dataAt
   data-illegal k e =
       sym (ap₂ (λ (u v : Decoded). dataAnswer (pick (headerMark u) (AnotherHeader d) (byData d v))) e (longer x d 4 260 k (lit≤ tt) e))
 
   module _ (b : List ℕ) (e : decodeAt x d 4 ≡ Bytes b) where
-    pub data-mark : at b 0 ≡ 8 → withoutPayload Another ≡ dataAnswer (dataAt x d)
+    pub data-mark : at b 0 ≡ 8 → withoutPayload (Another d) ≡ dataAnswer (dataAt x d)
     unfolding dataAt
     data-mark m =
         sym (ap (λ (t : Bool). dataAnswer (pick t (AnotherHeader d) (byData d (decodeAt x d 260)))) (ap headerMark e ∙ eqb-yes (at b 0) 8
@@ -184,6 +171,5 @@ module _ (x : ℕ → ℕ) (d : ℕ) where
 
 -- the block at bit s of byte i is the one at d
 pub block-here : (r : List ℕ) (i s d : ℕ) → 8 * i + s ≡ d % bits r
-    → dataAnswer (byData 0 (decodeAt (bitAt r) (8 * i + s) 260)) ≡ dataAnswer (byData d (decodeAt (bitAt r) d 260))
-block-here r i s d here =
-    ap (λ (o : Decoded). dataAnswer (byData 0 o)) (at-place r i s d here 260) ∙ block-any 0 d (decodeAt (bitAt r) d 260)
+    → dataAnswer (byData d (decodeAt (bitAt r) (8 * i + s) 260)) ≡ dataAnswer (byData d (decodeAt (bitAt r) d 260))
+block-here r i s d here = ap (λ (o : Decoded). dataAnswer (byData d o)) (at-place r i s d here 260)

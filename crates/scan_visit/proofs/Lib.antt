@@ -1,4 +1,5 @@
 pub mod VisitLaws
+pub mod MetLaws
 pub mod BlockTests
 pub mod GroupLaws
 pub mod WholeBlock

@@ -28,9 +28,9 @@ use Rattle.gcr_blocks.specs.Answers.{isReadable, bytesIn}
 use Rattle.ring.specs.Bit.{bits, bitAt}
 use Rattle.scan_visit.specs.declared.GroupRun.{GroupRun}
 use Rattle.scan_visit.specs.declared.BlockSums.{BlockSums}
-use Rattle.scan_visit.specs.declared.DataAt.the-variants.{Good, Bad}
+use Rattle.scan_visit.specs.declared.DataAt.the-variants.{IllegalIn, OtherMark, WrongSum, Good}
 use Rattle.scan_visit.specs.Visit.{at, payloadIn, byData}
-use Rattle.scan_visit.specs.Answers.{dataAnswer}
+use Rattle.scan_visit.specs.Answers.{aBlock, dataAnswer}
 use Rattle.scan_visit.specs.Inside.{withoutPayload, GroupsRead, BlockRead}
 use Rattle.scan_visit.proofs.BlockTests.{block-illegal, block-mark, block-sum, block-good}
 use Rattle.scan_visit.proofs.GroupLaws.{length-bytes, at-place, read-bytes, read-illegal, never, xor-alone, xor-three}
@@ -162,25 +162,25 @@ module _ (r : List ℕ) (i s : ℕ) (f : List ℕ) (ef : decodeAt (bitAt r) (8 *
           }
 
 -- ---- the ways out of `block_at`
-module _ (x : ℕ → ℕ) (p : ℕ) (first : List ℕ) (ef : decodeAt x p 4 ≡ Bytes first) (payload : List ℕ) (sums : BlockSums)
+module _ (d : ℕ) (x : ℕ → ℕ) (p : ℕ) (first : List ℕ) (ef : decodeAt x p 4 ≡ Bytes first) (payload : List ℕ) (sums : BlockSums)
     (br : BlockRead (decodeAt x p 260) payload sums) where
-  pub judged-illegal : sums .ok ≡ false → withoutPayload Bad ≡ dataAnswer (byData 0 (decodeAt x p 260))
-  judged-illegal t = block-illegal (decodeAt x p 260) (sym (br .told) ∙ t)
+  pub judged-illegal : sums .ok ≡ false → withoutPayload (IllegalIn d) ≡ dataAnswer (byData d (decodeAt x p 260))
+  judged-illegal t = block-illegal d (decodeAt x p 260) (sym (br .told) ∙ t)
 
   module _ (t : sums .ok ≡ true) where
     all-legal : isReadable (decodeAt x p 260) ≡ true
     all-legal = sym (br .told) ∙ t
 
-    pub judged-mark : at first 0 ≢ 7 → withoutPayload Bad ≡ dataAnswer (byData 0 (decodeAt x p 260))
-    judged-mark q = block-mark (decodeAt x p 260) all-legal (λ z. q (sym (same-marker x p first ef all-legal) ∙ z))
+    pub judged-mark : at first 0 ≢ 7 → withoutPayload (OtherMark d) ≡ dataAnswer (byData d (decodeAt x p 260))
+    judged-mark q = block-mark d (decodeAt x p 260) all-legal (λ z. q (sym (same-marker x p first ef all-legal) ∙ z))
 
     module _ (m : at first 0 ≡ 7) where
-      pub judged-sum : sums .sum ≢ sums .told → withoutPayload Bad ≡ dataAnswer (byData 0 (decodeAt x p 260))
+      pub judged-sum : sums .sum ≢ sums .told → withoutPayload (WrongSum d) ≡ dataAnswer (byData d (decodeAt x p 260))
       judged-sum q =
-          block-sum (decodeAt x p 260) all-legal (same-marker x p first ef all-legal ∙ m)
+          block-sum d (decodeAt x p 260) all-legal (same-marker x p first ef all-legal ∙ m)
           (λ z. q (br .summed t ∙ z ∙ sym (br .said t)))
 
-      pub judged-good : sums .sum ≡ sums .told → record { verdict = Good; payload = payload } ≡ dataAnswer (byData 0 (decodeAt x p 260))
+      pub judged-good : sums .sum ≡ sums .told → aBlock (Good d) payload ≡ dataAnswer (byData d (decodeAt x p 260))
       judged-good q =
-          ap (λ (l : List ℕ). record { verdict = Good; payload = l }) (br .laid t)
-          ∙ block-good (decodeAt x p 260) all-legal (same-marker x p first ef all-legal ∙ m) (sym (br .summed t) ∙ q ∙ br .said t)
+          ap (aBlock (Good d)) (br .laid t)
+          ∙ block-good d (decodeAt x p 260) all-legal (same-marker x p first ef all-legal ∙ m) (sym (br .summed t) ∙ q ∙ br .said t)

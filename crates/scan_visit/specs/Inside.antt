@@ -22,10 +22,6 @@ use Rattle.scan_visit.specs.Answers.{headerAnswer, DataBlock, aBlock, da
 abbrev pub headerBy : ℕ → List ℕ → HeaderAt
 headerBy track b = headerAnswer (byHeader track (BadData NoSync) (Bytes b))
 
--- a data block by its 260 bytes, wherever it stands
-abbrev pub blockBy : List ℕ → DataBlock
-blockBy b = dataAnswer (byData 0 (Bytes b))
-
 -- a verdict without a payload
 abbrev pub withoutPayload : DataAt → DataBlock
 withoutPayload verdict = aBlock verdict (replicate 256 0)

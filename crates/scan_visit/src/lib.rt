@@ -1,4 +1,4 @@
-// Blocks where they stand on a ring: a header, and a data block.
+// Blocks where they stand on a ring: a header, a data block, and both as a visit of the scan meets them.
 ghost use mathlib.Core.Path.{_≡_};
 ghost use mathlib.Core.List.{_++_};
 ghost use Prim.Native.Nat.{_+_, _*_, _%_, _^_, _<_, _≤_};
@@ -12,22 +12,37 @@ ghost use Rattle.gcr.specs.Symbols.{Bytes};
 ghost use Rattle.gcr.specs.Places.{decodeAt};
 ghost use Rattle.gcr.specs.Answers.{answer4};
 ghost use Rattle.ring.specs.Bit.{IsRing, bitAt};
-ghost use Rattle.scan_visit.specs.Visit.{visit, dataAt, byData};
-ghost use Rattle.scan_visit.specs.Answers.{headerAnswer, aBlock, dataAnswer};
+ghost use Rattle.scan_visit.specs.declared.DataAt.the-variants.{Nowhere};
+ghost use Rattle.scan_visit.specs.Visit.{visit, dataAt, byData, dataFor};
+ghost use Rattle.scan_visit.specs.Answers.{headerAnswer, aBlock, dataAnswer, met, aVisit, visitAnswer};
 ghost use Rattle.scan_visit.specs.Inside.{headerBy, withoutPayload, GroupsRead, BlockRead};
 use gcr::Decoded4;
+use scan_sync::SyncEnd;
 
-// A true header of the track, by its sector, or none.
+// What stands at a sync end: a symbol outside the table, no header of this track, one with a false checksum, by its sector, or a true one,
+// by its sector and both ids.
 pub enum HeaderAt {
-    Sector(u8),
+    Illegal,
     No,
+    FalseSum(u8),
+    Sector(u8, u8, u8),
 }
 
-// What stands at a data place: a good block, another header, or neither.
+// What the data search of a header comes to: no sync end; and at a place a symbol outside the table, a marker that is none, a false
+// checksum, another header, or a good block.
 pub enum DataAt {
-    Good,
-    Another,
-    Bad,
+    Nowhere,
+    IllegalIn(usize),
+    OtherMark(usize),
+    WrongSum(usize),
+    Another(usize),
+    Good(usize),
+}
+
+// A visit: the header, and what the data search comes to where that is a true one.
+pub struct Visited {
+    pub header: HeaderAt,
+    pub data: DataAt,
 }
 
 // The group that begins at bit s of byte i.
@@ -62,16 +77,16 @@ fn checked_header(a: [u8; 4], b: [u8; 4], track: u8) -> HeaderAt
     }
     let sector = a[2];
     if a[1] != sector ^ a[3] ^ b[0] ^ b[1] {
-        return HeaderAt::No;
+        return HeaderAt::FalseSum(sector);
     }
     if geometry::sectors_per_track(track) <= sector {
         return HeaderAt::No;
     }
-    HeaderAt::Sector(sector)
+    HeaderAt::Sector(sector, b[1], b[0])
 }
 
 // The header at `place`.
-pub fn header_at(ring: &[u8], track: u8, place: usize) -> HeaderAt
+fn header_at(ring: &[u8], track: u8, place: usize) -> HeaderAt
     requires { ⌜ IsRing (now ring) ⌝ }
     requires { ⌜ place + headerBits < 2 ^ 64 ⌝ }
     ensures { λ r. ⌜ r ≡ headerAnswer (visit (bitAt (now (ring .entry))) track place .found) ⌝ }
@@ -82,11 +97,11 @@ pub fn header_at(ring: &[u8], track: u8, place: usize) -> HeaderAt
     let s = start % 8;
     let first = group_at(ring, i, s);
     if !first.ok {
-        return HeaderAt::No;
+        return HeaderAt::Illegal;
     }
     let second = group_at(ring, five_on(i, n), s);
     if !second.ok {
-        return HeaderAt::No;
+        return HeaderAt::Illegal;
     }
     let a = first.bytes;
     let b = second.bytes;
@@ -195,29 +210,38 @@ fn read_block(ring: &[u8], i: usize, s: usize, first: [u8; 4], payload: &mut [u8
     }
 }
 
-// The data block at bit s of byte i, whose first group is `first` and has no header's marker. All its symbols are looked at first.
-fn block_at(ring: &[u8], i: usize, s: usize, first: [u8; 4], payload: &mut [u8; 256]) -> DataAt
+// The data block of `place`, which is bit s of byte i, whose first group is `first` and has no header's marker. All its symbols are looked
+// at first.
+fn block_at(
+    ring: &[u8],
+    place: usize,
+    i: usize,
+    s: usize,
+    first: [u8; 4],
+    payload: &mut [u8; 256],
+) -> DataAt
     requires { ⌜ IsRing (now ring) ⌝ }
     requires { ⌜ (i < length (now ring)) × (s < 8) ⌝ }
     requires { ⌜ decodeAt (bitAt (now ring)) (8 * i + s) 4 ≡ Bytes first ⌝ }
-    ensures { λ r. ⌜ aBlock r (now (payload .exit)) ≡ dataAnswer (byData 0 (decodeAt (bitAt (now (ring .entry))) (8 * i + s) 260)) ⌝ }
+    ensures { λ r. ⌜ aBlock r (now (payload .exit))
+        ≡ dataAnswer (byData place (decodeAt (bitAt (now (ring .entry))) (8 * i + s) 260)) ⌝ }
 {
     let read = read_block(ring, i, s, first, payload);
     if !read.ok {
-        return wiped(payload, DataAt::Bad);
+        return wiped(payload, DataAt::IllegalIn(place));
     }
     if first[0] != 0x07 {
-        return wiped(payload, DataAt::Bad);
+        return wiped(payload, DataAt::OtherMark(place));
     }
     if read.sum != read.told {
-        return wiped(payload, DataAt::Bad);
+        return wiped(payload, DataAt::WrongSum(place));
     }
-    DataAt::Good
+    DataAt::Good(place)
 }
 
 // What stands at the data place `place`; the marker is looked at first, in the first group alone. The payload is stored where the block
 // is good, else zeros.
-pub fn data_at(ring: &[u8], place: usize, payload: &mut [u8; 256]) -> DataAt
+fn data_at(ring: &[u8], place: usize, payload: &mut [u8; 256]) -> DataAt
     requires { ⌜ IsRing (now ring) ⌝ }
     requires { ⌜ place + blockBits < 2 ^ 64 ⌝ }
     ensures { λ r. ⌜ aBlock r (now (payload .exit)) ≡ dataAnswer (dataAt (bitAt (now (ring .entry))) place) ⌝ }
@@ -227,11 +251,56 @@ pub fn data_at(ring: &[u8], place: usize, payload: &mut [u8; 256]) -> DataAt
     let s = start % 8;
     let first = group_at(ring, i, s);
     if !first.ok {
-        return wiped(payload, DataAt::Bad);
+        return wiped(payload, DataAt::IllegalIn(place));
     }
     let bytes = first.bytes;
     if bytes[0] == 0x08 {
-        return wiped(payload, DataAt::Another);
+        return wiped(payload, DataAt::Another(place));
     }
-    block_at(ring, i, s, bytes, payload)
+    block_at(ring, place, i, s, bytes, payload)
+}
+
+// What the data search of the header at `place` comes to.
+fn data_for(ring: &[u8], place: usize, payload: &mut [u8; 256]) -> DataAt
+    requires { ⌜ IsRing (now ring) ⌝ }
+    requires { ⌜ place < 2 ^ 62 ⌝ }
+    ensures { λ r. ⌜ aBlock r (now (payload .exit)) ≡ dataAnswer (dataFor (bitAt (now (ring .entry))) place) ⌝ }
+{
+    let sync = scan_sync::find_sync_end(ring, place + geometry::HEADER_BITS, geometry::DATA_SEARCH);
+    match sync {
+        SyncEnd::At(d) => data_at(ring, d, payload),
+        SyncEnd::Nothing => wiped(payload, DataAt::Nowhere),
+    }
+}
+
+// A header that is no true one has no data.
+fn no_data(header: HeaderAt, payload: &mut [u8; 256]) -> Visited
+    ensures { λ r. ⌜ aVisit r (now (payload .exit)) ≡ met header (withoutPayload Nowhere) ⌝ }
+{
+    *payload = [0u8; 256];
+    Visited {
+        header: header,
+        data: DataAt::Nowhere,
+    }
+}
+
+// The visit to the sync end at `place`; the payload is stored where there is a good block, else zeros.
+pub fn visit_at(ring: &[u8], track: u8, place: usize, payload: &mut [u8; 256]) -> Visited
+    requires { ⌜ IsRing (now ring) ⌝ }
+    requires { ⌜ place < 2 ^ 62 ⌝ }
+    ensures { λ r. ⌜ aVisit r (now (payload .exit)) ≡ visitAnswer (visit (bitAt (now (ring .entry))) track place .found) ⌝ }
+{
+    let header = header_at(ring, track, place);
+    match header {
+        HeaderAt::Illegal => no_data(header, payload),
+        HeaderAt::No => no_data(header, payload),
+        HeaderAt::FalseSum(_) => no_data(header, payload),
+        HeaderAt::Sector(_, _, _) => {
+            let data = data_for(ring, place, payload);
+            Visited {
+                header: header,
+                data: data,
+            }
+        }
+    }
 }

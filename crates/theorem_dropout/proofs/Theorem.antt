@@ -1,5 +1,7 @@
 -- Demand 3, proved: for a built track with one stretch forced to zero, read from any bit.
---     all-own, all-found    the records of the damaged ring, for any ring that `ForcedToZero` admits
+--     tr, mean              the unrolled track, and what its nibbles say
+--     visits-are            the visits of a ring that `ForcedToZero` admits are those of the unrolled track with that stretch dropped
+--     all-own, all-found    its records
 --     demand-3              the statement of specs/
 --     never-refused         that ring is refused by no reader
 use mathlib.Core.Path.{_≡_, refl, sym, ap, ap₂, _∙_, subst, fun-ext}
@@ -32,7 +34,7 @@ use Rattle.track_build.proofs.TrackBits.{slotAt, st, ln, slot-fits}
 use Rattle.track_build.proofs.Meaning.{Meaning, meaning}
 use Rattle.track_build.proofs.Picture.{built-is, payload-long, payload-byte, unrolled}
 use Rattle.track_build.proofs.Stored.{length-built}
-use Rattle.scan.specs.Scan.{recordsOf, visitsOf}
+use Rattle.scan.specs.Scan.{visits, recordsOf, visitsOf}
 use Rattle.scan.specs.declared.SectorRecord.{SectorRecord}
 use Rattle.track_read.specs.Reading.{Given, NotGiven, firstOf, readSector}
 use Rattle.scan.proofs.ScanLaws.{scan, Every, Any, every-map}
@@ -96,10 +98,11 @@ module _ (track id1 id2 : ℕ) (payloads codes : List ℕ) (ht : track < 256) (h
   abbrev dN : ℕ → ℕ → ℕ
   dN k = nibble (at (dat (k % count)))
 
-  tr : Track (bitAt built) (st z) (ln z) hH hD hN dN
+  pub tr : Track (bitAt built) (st z) (ln z) hH hD hN dN
   tr = unrolled track payloads codes id1 id2 ht h1 h2 bytes
 
-  mean : Meaning (sectorsOf track) track (λ k. code (k % count)) (λ k. k % count) (λ k. at (payloadOf payloads (k % count))) hH hD hN dN
+  pub mean : Meaning (sectorsOf track) track (λ k. code (k % count)) (λ k. k % count) (λ k. at (payloadOf payloads (k % count)))
+      hH hD hN dN
   mean = meaning count (omega (arith, few)) pos code (payloadOf payloads) track id1 id2 ht h1 h2 lp bp
 
   -- a sector's slot lies in the ring
@@ -110,7 +113,7 @@ module _ (track id1 id2 : ℕ) (payloads codes : List ℕ) (ht : track < 256) (h
   start-ge zero = omega arith
   start-ge (suc j) = omega (arith, start-ge j, start-next z j, gap-ge z j hz)
 
-  wide : 9000 ≤ N
+  pub wide : 9000 ≤ N
   wide = omega (arith, fills z hz, start-ge count, few)
 
   -- a record has its own sector's payload, and that sector's code spoils nothing
@@ -202,8 +205,11 @@ module _ (track id1 id2 : ℕ) (payloads codes : List ℕ) (ht : track < 256) (h
           ℕ). 8 * y) (length-built track payloads codes id1 id2))
           (built-is track payloads codes id1 id2))
 
+      pub visits-are : visitsOf r track s ≡ visits D track (s % N + N) (s % N)
+      visits-are = ap₂ (λ (x : ℕ → ℕ) (m : ℕ). visits x track (s % m + m) (s % m)) same long
+
       records-are : recordsOf (visitsOf r track s) ≡ scan D track (s % N + N) (s % N + N - s % N) (s % N)
-      records-are = ap₂ (λ (x : ℕ → ℕ) (m : ℕ). scan x track (s % m + m) (s % m + m - s % m) (s % m)) same long
+      records-are = ap recordsOf visits-are
 
       -- soundness and completeness, of the records
       pub all-own : Every OwnRecord (recordsOf (visitsOf r track s))
@@ -240,7 +246,7 @@ module _ (d : Dropout) (ok : OfBytes d) where
   as-wide : 9000 ≤ 8 * capacityOf (d .track)
   as-wide = wide (d .track) (d .id1) (d .id2) (d .payloads) (d .codes) (ok .track-byte) (ok .id1-byte) (ok .id2-byte) (ok .payload-bytes)
 
-  zeroed : ForcedToZero (builtTrack (d .track) (d .payloads) (d .codes) (d .id1) (d .id2)) (damaged d) (d .place) (d .long)
+  pub zeroed : ForcedToZero (builtTrack (d .track) (d .payloads) (d .codes) (d .id1) (d .id2)) (damaged d) (d .place) (d .long)
   zeroed = forced (builtTrack (d .track) (d .payloads) (d .codes) (d .id1) (d .id2)) (d .place) (omega (arith, as-long, as-wide)) (d .long)
 
   every : Every P found

@@ -1,4 +1,8 @@
+pub mod FirstLaws
+pub mod StatusMore
+pub mod HearLaws
 pub mod ReadingLaws
-pub mod Keeping
+pub mod MoreHeard
+pub mod Hearing
 pub mod Refusing
 pub mod StatusLaws

@@ -19,8 +19,11 @@ use Rattle.geometry.specs.Zones.{sectorsOf}
 use Rattle.ring.specs.Bit.{bits, bitAt}
 use Rattle.scan.specs.declared.SectorRecord.{SectorRecord}
 use Rattle.track_read.specs.Reading.{Handed, Given, NotGiven, firstOf, readSector}
-use Rattle.track_read.specs.Reading.{bytesGiven, statusOf, readPayloads, readStatuses, standing}
-use Rattle.scan.specs.Scan.{records}
+use Rattle.track_read.specs.Reading.{bytesGiven, readPayloads, readStatuses, standing}
+use Rattle.track_read.specs.Statuses.{statusIn}
+use Rattle.track_read.proofs.FirstLaws.{isGiven}
+use Rattle.track_read.proofs.StatusMore.{status-given}
+use Rattle.scan.specs.Scan.{visitsOf, records}
 use Rattle.scan.proofs.ScanLaws.{Every, Any}
 use Rattle.scan.proofs.EachRecord.{each-next}
 use Rattle.scan.proofs.Passing.{endOf, Sized}
@@ -69,19 +72,19 @@ module _ (ring : List ℕ) (track start : ℕ) where
       (each-next (bitAt ring) track (endOf ring start) Sized (start % bits ring) (λ c r l i. i .long))
 
   pub count-statuses : length (readStatuses ring track start) ≡ sectorsOf track
-  count-statuses = length-tab (sectorsOf track) (λ j. statusOf (readSector ring track start j))
+  count-statuses = length-tab (sectorsOf track) (λ j. statusIn j (visitsOf ring track start))
 
   -- ---- what stands in front of the buffers
-  told : (h : Handed) → h ≡ pick (eqb (statusOf h) 1) (Given (bytesGiven h)) NotGiven
-  told (Given bytes) = refl
-  told NotGiven = refl
+  told : (h : Handed) (b : Bool) → b ≡ isGiven h → h ≡ pick b (Given (bytesGiven h)) NotGiven
+  told (Given bytes) b e = sym (ap (λ (y : Bool). pick y (Given bytes) NotGiven) e)
+  told NotGiven b e = sym (ap (λ (y : Bool). pick y (Given (bytesGiven NotGiven)) NotGiven) e)
 
   pub stands : (rest more : List ℕ) (j : ℕ) → j < sectorsOf track
       → readSector ring track start j ≡ standing (readPayloads ring track start ++ rest) (readStatuses ring track start ++ more) j
   stands rest more j l =
-      let status : ℕ → ℕ = λ i. statusOf (readSector ring track start i) in
+      let status : ℕ → ℕ = λ i. statusIn i (visitsOf ring track start) in
       let bytes : ℕ → List ℕ = λ i. bytesGiven (readSector ring track start i) in
-      told (readSector ring track start j)
+      told (readSector ring track start j) (eqb (statusIn j (visitsOf ring track start)) 1) (status-given j (visitsOf ring track start))
       ∙ ap₂ (λ (s : ℕ) (p : List ℕ). pick (eqb s 1) (Given p) NotGiven)
       (sym (List·getD-append (readStatuses ring track start) more 0 j (omega (arith, count-statuses))
       ∙ getD-tab (sectorsOf track) status j l))

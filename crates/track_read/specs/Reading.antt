@@ -6,8 +6,9 @@ use lib.ListN.{getD, take, drop, replicate}
 use Rattle.base.specs.Choice.{pick}
 use Rattle.base.specs.Lists.{tab, joined}
 use Rattle.geometry.specs.Zones.{sectorsOf}
-use Rattle.scan.specs.Scan.{records}
+use Rattle.scan.specs.Scan.{visitsOf, records}
 use Rattle.scan.specs.declared.SectorRecord.{SectorRecord}
+use Rattle.track_read.specs.Statuses.{statusIn}
 
 -- what is handed out for a sector: it is given, with its 256 bytes, or not
 pub data Handed : Type 0 where
@@ -29,17 +30,13 @@ abbrev pub bytesGiven : Handed → List ℕ
 bytesGiven (Given bytes) = bytes
 bytesGiven NotGiven = replicate 256 0
 
-abbrev pub statusOf : Handed → ℕ
-statusOf (Given bytes) = 1
-statusOf NotGiven = 2
-
 -- the payloads of all sectors of the track
 abbrev pub readPayloads : List ℕ → ℕ → ℕ → List ℕ
 readPayloads ring track start = joined (sectorsOf track) (λ j. bytesGiven (readSector ring track start j))
 
 -- the status list beside them
 abbrev pub readStatuses : List ℕ → ℕ → ℕ → List ℕ
-readStatuses ring track start = tab (sectorsOf track) (λ j. statusOf (readSector ring track start j))
+readStatuses ring track start = tab (sectorsOf track) (λ j. statusIn j (visitsOf ring track start))
 
 -- what such payloads and statuses say of sector j
 abbrev pub standing : List ℕ → List ℕ → ℕ → Handed

@@ -1,12 +1,17 @@
 // Reading a track: each sector by its first record.
 ghost use mathlib.Core.Path.{_≡_};
 ghost use Prim.Native.Nat.{_+_, _*_, _≤_, _<_};
+ghost use mathlib.Core.Bool.{_||_};
+ghost use lib.Dec.{eqb};
 ghost use lib.ListN.{length};
 ghost use Rattle.geometry.specs.Zones.{sectorsOf};
 ghost use Rattle.ring.specs.Bit.{IsRing};
 ghost use Rattle.track_read.specs.Answers.{trackRead, trackPayloads, trackStatuses, ringStatuses};
-ghost use Rattle.track_read.specs.Inside.{Kept, ReadInto};
-use scan::SectorRecord;
+ghost use Rattle.track_read.specs.Statuses.{noData, falseData};
+ghost use Rattle.track_read.specs.Inside.{numberOf, saying, saidMet, weigh, Heard, ReadInto};
+use scan_visit::DataAt;
+use scan_visit::HeaderAt;
+use scan_visit::Visited;
 
 // What reading a track answers: the number of sectors found, or a refusal number.
 pub enum TrackRead {
@@ -14,29 +19,128 @@ pub enum TrackRead {
     Refused(u8),
 }
 
-// A sector's status: handed out, or missing.
+// A sector's status: handed out, or why it is missing.
 pub const HANDED_OUT: u8 = 1;
 
-pub const MISSING: u8 = 2;
+pub const NO_HEADER: u8 = 2;
 
-// A record's payload handed out, unless its sector has been: 1, else 0.
-fn keep_first(payloads: &mut [u8], statuses: &mut [u8], row: SectorRecord) -> usize
-    requires { ⌜ 256 * row .sector + length (row .payload) ≤ length (now payloads) ⌝ }
-    requires { ⌜ row .sector < length (now statuses) ⌝ }
-    ensures { λ r. ⌜ Kept row (now (payloads .entry)) (now (statuses .entry)) (now (payloads .exit)) (now (statuses .exit)) r ⌝ }
+pub const NO_SYNC: u8 = 3;
+
+pub const NO_DATA: u8 = 4;
+
+pub const FALSE_DATA: u8 = 5;
+
+pub const FALSE_HEADER: u8 = 9;
+
+// What a visit says of a sector: of which, and what.
+struct Saying {
+    pub sector: usize,
+    pub number: u8,
+}
+
+// What the data search of a true header says of its sector.
+fn number_of(verdict: DataAt) -> u8
+    ensures { λ r. ⌜ r ≡ numberOf verdict ⌝ }
 {
-    let sector = row.sector;
-    if statuses[sector] == HANDED_OUT {
+    match verdict {
+        DataAt::Nowhere => NO_DATA,
+        DataAt::IllegalIn(_) => NO_DATA,
+        DataAt::OtherMark(_) => NO_DATA,
+        DataAt::WrongSum(_) => FALSE_DATA,
+        DataAt::Another(_) => NO_DATA,
+        DataAt::Good(_) => HANDED_OUT,
+    }
+}
+
+fn a_saying(sector: u8, number: u8) -> Saying
+    ensures { λ r. ⌜ r ≡ saying sector number ⌝ }
+{
+    Saying {
+        sector: sector as usize,
+        number: number,
+    }
+}
+
+// What a visit says; where it says nothing, that no header of sector 0 was met.
+fn said_by(met: Visited) -> Saying
+    ensures { λ r. ⌜ r ≡ saidMet (met .header) (met .«data») ⌝ }
+{
+    let header = met.header;
+    let verdict = met.data;
+    match header {
+        HeaderAt::Illegal => a_saying(0, NO_HEADER),
+        HeaderAt::No => a_saying(0, NO_HEADER),
+        HeaderAt::FalseSum(sector) => a_saying(sector, FALSE_HEADER),
+        HeaderAt::Sector(sector, _, _) => a_saying(sector, number_of(verdict)),
+    }
+}
+
+// Is it the number of a true header without data?
+fn without_data(number: u8) -> bool
+    ensures { λ r. ⌜ r ≡ eqb number noData || eqb number falseData ⌝ }
+{
+    if number == NO_DATA {
+        return true;
+    }
+    number == FALSE_DATA
+}
+
+// The status after one saying more.
+fn weigh_in(old: u8, new: u8) -> u8
+    ensures { λ r. ⌜ r ≡ weigh old new ⌝ }
+{
+    if old == HANDED_OUT {
+        return HANDED_OUT;
+    }
+    if new == HANDED_OUT {
+        return HANDED_OUT;
+    }
+    if without_data(old) {
+        return old;
+    }
+    if without_data(new) {
+        return new;
+    }
+    if old == FALSE_HEADER {
+        return FALSE_HEADER;
+    }
+    if new == FALSE_HEADER {
+        return FALSE_HEADER;
+    }
+    NO_HEADER
+}
+
+// A saying heard, where the track has its sector: the status weighed, and the payload handed out unless the sector has been: 1, else 0.
+fn hear(
+    payloads: &mut [u8],
+    statuses: &mut [u8],
+    count: usize,
+    said: Saying,
+    payload: &[u8; 256],
+) -> usize
+    requires { ⌜ (256 * count ≤ length (now payloads)) × (count ≤ length (now statuses)) × (count ≤ 21) ⌝ }
+    ensures { λ r. ⌜ Heard count said (now (payload .entry)) (now (payloads .entry)) (now (statuses .entry)) (now (payloads .exit))
+        (now (statuses .exit)) r ⌝ }
+{
+    let sector = said.sector;
+    if count <= sector {
         return 0;
     }
-    let payload = row.payload;
-    base::store(payloads, 256 * sector, &payload);
-    statuses[sector] = HANDED_OUT;
+    let stood = statuses[sector];
+    let number = said.number;
+    statuses[sector] = weigh_in(stood, number);
+    if number != HANDED_OUT {
+        return 0;
+    }
+    if stood == HANDED_OUT {
+        return 0;
+    }
+    base::store(payloads, 256 * sector, payload);
     1
 }
 
-// The first record of each sector handed out; the answer is how many sectors have one.
-fn read_records(
+// The first record of each sector handed out, and of the others why they are missing; the answer is how many sectors have one.
+fn read_visits(
     ring: &[u8],
     track: u8,
     start_bit: usize,
@@ -50,25 +154,33 @@ fn read_records(
 {
     let count = geometry::sectors_per_track(track) as usize;
     base::fill(payloads, 0, 256 * count, 0);
-    base::fill(statuses, 0, count, MISSING);
+    base::fill(statuses, 0, count, NO_HEADER);
     let bits = 8 * ring.len();
     let start = start_bit % bits;
     let end = start + bits;
-    let mut scan_bit = start;
+    let mut payload = [0u8; 256];
+    let mut bit = start;
     let mut n: usize = 0;
     loop {
-        let next = scan::next_record(ring, track, end, scan_bit);
+        let next = scan::next_visit(ring, track, end, bit, &mut payload);
         if !next.found {
-            break n;
+            break;
         }
-        let row = next.row;
-        n += keep_first(payloads, statuses, row);
-        scan_bit = row.place + geometry::BLOCK_BITS;
+        let met = next.met;
+        let said = said_by(met);
+        n += hear(payloads, statuses, count, said, &payload);
+        let verdict = met.data;
+        bit = scan::next_bit(next.place, verdict);
     }
+    // No visit was made.
+    if bit == start {
+        base::fill(statuses, 0, count, NO_SYNC);
+    }
+    n
 }
 
 // The payloads of a track's sectors, each by its first record, and the status list beside them: 1 for a sector handed
-// out, 2 and zeros for one that is missing.
+// out, and for one that is missing zeros and why.
 pub fn decode_track_from(
     ring: &[u8],
     track: u8,
@@ -91,7 +203,7 @@ pub fn decode_track_from(
     if number != 0 {
         return TrackRead::Refused(number);
     }
-    TrackRead::Found(read_records(ring, track, start_bit, payloads, statuses))
+    TrackRead::Found(read_visits(ring, track, start_bit, payloads, statuses))
 }
 
 // The statuses of a ring's sectors. A ring that cannot be read is refused, which leaves the zeros.

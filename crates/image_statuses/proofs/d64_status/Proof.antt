@@ -1,5 +1,3 @@
-use mathlib.Core.Path.{ap, _∙_}
-use Rattle.track_build.specs.Blocks.{spoils}
 use Rattle.image_statuses.proofs.StatusLaws.{status-bad, status-good}
 use borrow.Author.Needs.{needs}
 use Rattle.image_statuses.proofs.d64_status.Statement.{statement}
@@ -14,16 +12,18 @@ spoils-requires c κs = search needs
 returns : tie.Need-returns
 returns c =
     let s = c .before in
+    let e = s .before .error-byte in
     let a = s .before .before .before .args in
-    status-bad (a .image .now) (a .highest) (a .track) (a .sector) (s .spoils .result)
-    (s .spoils .ensures ∙ ap spoils (s .before .error-byte .ensures)) (c .if1 .taken)
+    status-bad (a .image .now) (a .highest) (a .track) (a .sector) (e .result) (s .spoils .result) (e .ensures) (s .spoils .ensures)
+    (c .if1 .taken)
 
 returns-2 : tie.Need-returns-2
 returns-2 c =
     let s = c .before in
+    let e = s .before .error-byte in
     let a = s .before .before .before .args in
-    status-good (a .image .now) (a .highest) (a .track) (a .sector) (s .spoils .result)
-    (s .spoils .ensures ∙ ap spoils (s .before .error-byte .ensures)) (c .if1 .left)
+    status-good (a .image .now) (a .highest) (a .track) (a .sector) (e .result) (s .spoils .result) (e .ensures) (s .spoils .ensures)
+    (c .if1 .left)
 
 pub d64-status-spec : {M : Type 1} → statement M
 d64-status-spec = tie.close (tie.spec error-byte-requires spoils-requires returns returns-2)

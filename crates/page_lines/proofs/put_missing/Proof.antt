@@ -19,8 +19,9 @@ same-length : tie.Need-same-length
 same-length c = search needs
 
 returns : tie.Need-returns
-returns c = then _ _ _ (ascii " missing" ∷ [])
-    (unread (c .before .before .before .before .before .before .before .before .before .before .before .args .statuses .now))
+returns c =
+    let a = c .before .before .before .before .before .before .before .before .before .before .before .args in
+    then _ _ _ (ascii " missing" ∷ []) (unread (a .asked) (a .statuses .now))
     (c .before .before .before .before .before .before .words .ensures) (c .before .before .put-unread .ensures)
 
 pub put-missing-spec : {M : Type 1} → statement M

@@ -11,15 +11,16 @@ use Rattle.page_lines.proofs.put_unread.Statement.{statement}
 use Rattle.page_lines.proofs.put_unread.Tie as tie
 
 abbrev Inv-loop : tie.InvT-loop
-Inv-loop page₀ at statuses behind₀ j₀ page behind j =
-    (j ≤ length statuses) × (length page ≡ length page₀) × (sheet page behind ≡ writes (sheet page₀ at) (together j (unreadAt statuses)))
+Inv-loop page₀ at statuses asked behind₀ j₀ page behind j =
+    (j ≤ length statuses) × (length page ≡ length page₀)
+    × (sheet page behind ≡ writes (sheet page₀ at) (together j (unreadAt asked statuses)))
 
 abbrev μ-loop : tie.MeasureT-loop
-μ-loop page₀ at statuses behind₀ j₀ page behind j = length statuses - j
+μ-loop page₀ at statuses asked behind₀ j₀ page behind j = length statuses - j
 
 loop-holds : tie.Need-loop-holds Inv-loop μ-loop
 loop-holds c = let a = c .before .before .args in
-    (omega arith, refl, none-together (sheet (a .page .now) (a .at)) (unreadAt (a .statuses .now)))
+    (omega arith, refl, none-together (sheet (a .page .now) (a .at)) (unreadAt (a .asked) (a .statuses .now)))
 
 put-unread-at-requires : tie.Need-put-unread-at-requires Inv-loop μ-loop
 put-unread-at-requires c κs = omega arith
@@ -37,7 +38,8 @@ loop-again c =
     let a = c .before .before .before .before .before .before .before .before .args in (
       omega arith,
       p .kept .0 ∙ l .inv .1,
-      one-more (sheet (a .page .now) (a .at)) (sheet (l .page) (l .behind)) (sheet (p .last .0) (p .result)) (unreadAt (a .statuses .now))
+      one-more (sheet (a .page .now) (a .at)) (sheet (l .page) (l .behind)) (sheet (p .last .0) (p .result))
+          (unreadAt (a .asked) (a .statuses .now))
           (l .j) (l .inv .2) (p .ensures),
     )
 
@@ -48,7 +50,7 @@ returns : tie.Need-returns Inv-loop μ-loop
 returns c =
     let l = c .before .loop in
     let a = c .before .before .before .before .args in
-    all-unread (sheet (a .page .now) (a .at)) (sheet (l .page) (l .behind)) (a .statuses .now) (l .j) (omega arith) (l .inv .2)
+    all-unread (sheet (a .page .now) (a .at)) (sheet (l .page) (l .behind)) (a .asked) (a .statuses .now) (l .j) (omega arith) (l .inv .2)
 
 pub put-unread-spec : {M : Type 1} → statement M
 put-unread-spec =

@@ -21,7 +21,7 @@ same-length c = search needs
 returns : tie.Need-returns
 returns c =
     let a = c .before .before .before .before .before .before .before .before .before .before .before .before .before .before .args in
-    tally-all _ _ _ (a .word .now) (a .statuses .now)
+    tally-all _ _ _ (a .asked) (a .word .now) (a .statuses .now)
     (c .before .before .before .before .before .before .before .before .before .before .count-reading .result)
     (c .before .before .before .before .before .before .before .before .before .before .count-reading .ensures)
     (c .before .before .before .before .before .before .before .before .counted .ensures) (c .before .before .before .counted2 .ensures)
@@ -37,7 +37,7 @@ returns-2 : tie.Need-returns-2
 returns-2 c =
     let a = c .before .before .before .before .before .before .before .before .before .before .before .before .before .before .before
     .before .before .before .args in
-    tally-some _ _ _ (a .word .now) (a .statuses .now)
+    tally-some _ _ _ (a .asked) (a .word .now) (a .statuses .now)
     (c .before .before .before .before .before .before .before .before .before .before .before .before .before .before .count-reading
     .result) (c .before .before .before .before .before .before .before .before .before .before .before .before .before .before
     .count-reading .ensures)

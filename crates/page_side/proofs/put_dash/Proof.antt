@@ -18,39 +18,13 @@ sub-valued c = search needs
 valued-requires : tie.Need-valued-requires
 valued-requires c κs = search needs
 
-slice-aggregate-counted : tie.Need-slice-aggregate-counted
-slice-aggregate-counted c = search needs
-
-counted-requires : tie.Need-counted-requires
-counted-requires c κs = search needs
-
-slice-aggregate-counted-2 : tie.Need-slice-aggregate-counted-2
-slice-aggregate-counted-2 c = search needs
-
-counted-requires-2 : tie.Need-counted-requires-2
-counted-requires-2 c κs = search needs
-
-slice-aggregate-words : tie.Need-slice-aggregate-words
-slice-aggregate-words c = search needs
-
-words-requires : tie.Need-words-requires
-words-requires c κs = search needs
-
 same-length : tie.Need-same-length
 same-length c = search needs
 
 returns : tie.Need-returns
-returns c =
-    let a = c .before .before .before .before .before .before .before .before .before .before .before .before .before .before .before
-    .before .before .before .before .before .before .before .before .args in
-    dash-put _ _ _ _ _ (a .track) (a .n) (a .j) _ _ (c .before .before .before .before .before .before .before .before .before .before
-    .before .before .before .before .before .before .before .before .before .before .before .around-of .ensures)
-    (c .before .before .before .before .before .before .before .before .before .before .before .before .before .before .before .before
-    .before .before .before .before .begins-at .ensures .0)
-    (c .before .before .before .before .before .before .before .before .before .before .before .before .before .before .before .before
-    .before .valued .ensures)
-    (c .before .before .before .before .before .before .before .before .before .before .before .before .counted .ensures)
-    (c .before .before .before .before .before .before .before .counted2 .ensures) (c .before .before .words .ensures)
+returns c = let a = c .before .before .before .before .before .before .before .before .args in dash-put _ _ (a .track) (a .n)
+    (a .j) _ _ (c .before .before .before .before .before .before .around-of .ensures)
+    (c .before .before .before .before .before .begins-at .ensures .0) (c .before .before .valued .ensures)
 
 pub put-dash-spec : {M : Type 1} → statement M
 put-dash-spec =
@@ -61,11 +35,5 @@ put-dash-spec =
     slice-aggregate-valued
     sub-valued
     valued-requires
-    slice-aggregate-counted
-    counted-requires
-    slice-aggregate-counted-2
-    counted-requires-2
-    slice-aggregate-words
-    words-requires
     same-length
     returns)

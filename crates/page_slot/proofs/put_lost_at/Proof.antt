@@ -7,19 +7,35 @@ shared-slice-read-if1 : tie.Need-shared-slice-read-if1
 shared-slice-read-if1 c = search needs
 
 returns : tie.Need-returns
-returns c = let a = c .before .before .before .before .before .before .args in lost-ring _ (a .ring .now) (a .turn .now) (a .window .now) (a .j) (c .if1 .taken)
-
-shared-slice-read-if2 : tie.Need-shared-slice-read-if2
-shared-slice-read-if2 c = search needs
-
-returns-2 : tie.Need-returns-2
-returns-2 c = let a = c .before .before .before .before .before .before .before .before .args in lost-neither _ (a .ring .now) (a .turn .now) (a .window .now) (a .j) (c .before .before .if1 .left) (c .if2 .taken)
+returns c = let a = c .before .before .before .before .before .before .args in lost-ring _ (a .ring .now) (a .turn .now)
+    (a .window .now) (a .j) (c .if1 .taken)
 
 slice-aggregate-counted : tie.Need-slice-aggregate-counted
 slice-aggregate-counted c = search needs
 
 counted-requires : tie.Need-counted-requires
 counted-requires c κs = search needs
+
+shared-slice-read-if2 : tie.Need-shared-slice-read-if2
+shared-slice-read-if2 c = search needs
+
+shared-slice-read-put-why : tie.Need-shared-slice-read-put-why
+shared-slice-read-put-why c = search needs
+
+put-why-requires : tie.Need-put-why-requires
+put-why-requires c κs = search needs
+
+same-length : tie.Need-same-length
+same-length c = search needs
+
+returns-2 : tie.Need-returns-2
+returns-2 c =
+    let a = c .before .before .before .before .before .before .before .before .before .before .before .before .before .before .before
+    .before .before .before .args in
+    lost-neither _ (a .ring .now) (a .turn .now) (a .window .now) (a .j) (c .before .before .before .before .before .before .before
+    .before .before .before .before .before .if1 .left) _ _ (c .before .before .before .before .before .before .before .before
+    .before .counted .ensures) (c .before .before .before .before .before .if2 .taken)
+    (c .before .before .put-why .ensures)
 
 shared-slice-read-if3 : tie.Need-shared-slice-read-if3
 shared-slice-read-if3 c = search needs
@@ -30,15 +46,17 @@ slice-aggregate-words c = search needs
 words-requires : tie.Need-words-requires
 words-requires c κs = search needs
 
-same-length : tie.Need-same-length
-same-length c = search needs
+same-length-2 : tie.Need-same-length-2
+same-length-2 c = search needs
 
 returns-3 : tie.Need-returns-3
 returns-3 c =
-    let d = c .before .before .before .before .before in
-    let a = d .before .before .before .before .before .before .before .before .before .before .before .before .before .before .before .args in
-    lost-across _ (a .ring .now) (a .turn .now) (a .window .now) (a .j) (d .before .before .before .before .before .before .before .before .before .if1 .left) _ _ (d .before .before .before .before .before .before .before .if2 .left) (d .before .before .before .before .counted .ensures) (d .if3 .taken)
-    (c .before .before .words .ensures)
+    let a = c .before .before .before .before .before .before .before .before .before .before .before .before .before .before .before
+    .before .before .before .before .before .args in
+    lost-across _ (a .ring .now) (a .turn .now) (a .window .now) (a .j) (c .before .before .before .before .before .before .before
+    .before .before .before .before .before .before .before .if1 .left) _ _ (c .before .before .before .before .before .before
+    .before .before .before .before .before .counted .ensures) (c .before .before .before .before .before .before .before .if2 .left)
+    (c .before .before .before .before .before .if3 .taken) (c .before .before .words .ensures)
 
 slice-aggregate-words-2 : tie.Need-slice-aggregate-words-2
 slice-aggregate-words-2 c = search needs
@@ -46,15 +64,17 @@ slice-aggregate-words-2 c = search needs
 words-requires-2 : tie.Need-words-requires-2
 words-requires-2 c κs = search needs
 
-same-length-2 : tie.Need-same-length-2
-same-length-2 c = search needs
+same-length-3 : tie.Need-same-length-3
+same-length-3 c = search needs
 
 returns-4 : tie.Need-returns-4
 returns-4 c =
-    let d = c .before .before .before .before .before in
-    let a = d .before .before .before .before .before .before .before .before .before .before .before .before .before .before .before .args in
-    lost-behind _ (a .ring .now) (a .turn .now) (a .window .now) (a .j) (d .before .before .before .before .before .before .before .before .before .if1 .left) _ _ (d .before .before .before .before .before .before .before .if2 .left) (d .before .before .before .before .counted .ensures) (d .if3 .left)
-    (c .before .before .words2 .ensures)
+    let a = c .before .before .before .before .before .before .before .before .before .before .before .before .before .before .before
+    .before .before .before .before .before .args in
+    lost-behind _ (a .ring .now) (a .turn .now) (a .window .now) (a .j) (c .before .before .before .before .before .before .before
+    .before .before .before .before .before .before .before .if1 .left) _ _ (c .before .before .before .before .before .before
+    .before .before .before .before .before .counted .ensures) (c .before .before .before .before .before .before .before .if2 .left)
+    (c .before .before .before .before .before .if3 .left) (c .before .before .words2 .ensures)
 
 pub put-lost-at-spec : {M : Type 1} → statement M
 put-lost-at-spec =
@@ -62,16 +82,19 @@ put-lost-at-spec =
     (tie.spec
     shared-slice-read-if1
     returns
-    shared-slice-read-if2
-    returns-2
     slice-aggregate-counted
     counted-requires
+    shared-slice-read-if2
+    shared-slice-read-put-why
+    put-why-requires
+    same-length
+    returns-2
     shared-slice-read-if3
     slice-aggregate-words
     words-requires
-    same-length
+    same-length-2
     returns-3
     slice-aggregate-words-2
     words-requires-2
-    same-length-2
+    same-length-3
     returns-4)

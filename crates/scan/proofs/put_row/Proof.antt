@@ -4,6 +4,9 @@ use native.Mathlib.Numerals.{add-one}
 use borrow.Author.Needs.{needs}
 use Rattle.scan.proofs.put_row.Statement.{statement}
 use Rattle.scan.proofs.put_row.Tie as tie
+use Rattle.scan.proofs.put_row.Reads as reads
+use Rattle.scan.proofs.put_row.Lts as lts
+use Rattle.base.proofs.store.Reads as store-reads
 
 mul-rows : tie.Need-mul-rows
 mul-rows c = search needs
@@ -24,13 +27,11 @@ mul-rows-4 : tie.Need-mul-rows-4
 mul-rows-4 c = search needs
 
 slice-write-rows-2 : tie.Need-slice-write-rows-2
-slice-write-rows-2 c = simp length-set (omega arith)
+slice-write-rows-2 c =
+    simp length-set (omega arith)
 
 mul-store : tie.Need-mul-store
 mul-store c = search needs
-
-slice-aggregate-store : tie.Need-slice-aggregate-store
-slice-aggregate-store c = search needs
 
 store-requires : tie.Need-store-requires
 store-requires c κs = search needs
@@ -42,7 +43,8 @@ same-length-2 : tie.Need-same-length-2
 same-length-2 c = search needs
 
 returns : tie.Need-returns
-returns c = (rw add-one, c .before .before .store .ensures)
+returns c =
+    (rw add-one, c .before .before .store .ensures)
 
 pub put-row-spec : {M : Type 1} → statement M
 put-row-spec =
@@ -56,7 +58,6 @@ put-row-spec =
     mul-rows-4
     slice-write-rows-2
     mul-store
-    slice-aggregate-store
     store-requires
     same-length
     same-length-2

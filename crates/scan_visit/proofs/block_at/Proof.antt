@@ -20,7 +20,7 @@ returns c =
     let d = c .before .before in
     let q = d .before .before in
     let s = q .before .before .before in
-    c .wiped .ensures ∙ judged-illegal _ _ _ (s .pre .1 .1) _ _ (q .read-block .ensures) (not-true _ (d .if1 .taken))
+    c .wiped .ensures ∙ judged-illegal _ _ _ _ (s .pre .1 .1) _ _ (q .read-block .ensures) (not-true _ (d .if1 .taken))
 
 array-read-if2 : tie.Need-array-read-if2
 array-read-if2 c = search needs
@@ -34,7 +34,7 @@ returns-2 c =
     let q = d .before .before in
     let s = q .before .before .before in
     c .wiped2 .ensures
-    ∙ judged-mark _ _ _ (s .pre .1 .1) _ _ (q .read-block .ensures) (not-false _ (d .if1 .left)) (c .before .before .if2 .taken)
+    ∙ judged-mark _ _ _ _ (s .pre .1 .1) _ _ (q .read-block .ensures) (not-false _ (d .if1 .left)) (c .before .before .if2 .taken)
 
 wiped-requires-3 : tie.Need-wiped-requires-3
 wiped-requires-3 c κs = search needs
@@ -46,7 +46,7 @@ returns-3 c =
     let q = d .before .before in
     let s = q .before .before .before in
     c .wiped3 .ensures
-    ∙ judged-sum _ _ _ (s .pre .1 .1) _ _ (q .read-block .ensures) (not-false _ (d .if1 .left)) (e .if2 .left)
+    ∙ judged-sum _ _ _ _ (s .pre .1 .1) _ _ (q .read-block .ensures) (not-false _ (d .if1 .left)) (e .if2 .left)
     (c .before .before .if3 .taken)
 
 returns-4 : tie.Need-returns-4
@@ -55,7 +55,7 @@ returns-4 c =
     let d = e .before in
     let q = d .before .before in
     let s = q .before .before .before in
-    judged-good _ _ _ (s .pre .1 .1) _ _ (q .read-block .ensures) (not-false _ (d .if1 .left)) (e .if2 .left) (c .if3 .left)
+    judged-good _ _ _ _ (s .pre .1 .1) _ _ (q .read-block .ensures) (not-false _ (d .if1 .left)) (e .if2 .left) (c .if3 .left)
 
 pub block-at-spec : {M : Type 1} → statement M
 block-at-spec =

@@ -56,6 +56,12 @@ returns-4 c =
     let h : sectorsOf (a .track) ≤ getD (a .t1) 2 0 = omega (arith, c .before .sectors-per-track .ensures .0, c .if4 .taken) in
     header-high (a .track) (a .t1) (a .t2) (search needs) (z .before .before .if1 .left) (z .before .if2 .left) (z .if3 .left) h
 
+array-read-t28 : tie.Need-array-read-t28
+array-read-t28 c = search needs
+
+array-read-t19 : tie.Need-array-read-t19
+array-read-t19 c = search needs
+
 returns-5 : tie.Need-returns-5
 returns-5 c =
     let z = c .before .before in
@@ -79,4 +85,6 @@ checked-header-spec =
     returns-3
     sectors-per-track-requires
     returns-4
+    array-read-t28
+    array-read-t19
     returns-5)

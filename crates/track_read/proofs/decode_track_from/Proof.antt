@@ -41,8 +41,8 @@ returns-3 c =
 the-ring : (c : tie.Else3) → IsRing (c .before .before .before .before .before .before .before .before .args .ring .now)
 the-ring c = is-ring _ (sym (c .before .refusal-of .ensures) ∙ c .if3 .left)
 
-read-records-requires : tie.Need-read-records-requires
-read-records-requires c κs =
+read-visits-requires : tie.Need-read-visits-requires
+read-visits-requires c κs =
     let y = c .before .before in
     let n = y .before in
     let e = n .before .before .before .sectors-per-track .ensures .0 in
@@ -60,7 +60,7 @@ returns-4 c =
     let n = y .before in
     let e = n .before .before .before .sectors-per-track .ensures .0 in
     read-goes _ _ _ _ _ (omega (arith, n .before .before .if1 .left)) (omega (arith, n .before .if2 .left)) (the-ring y) _ _ _
-    (c .before .before .before .before .read-records .ensures)
+    (c .before .before .before .before .read-visits .ensures)
 
 pub decode-track-from-spec : {M : Type 1} → statement M
 decode-track-from-spec =
@@ -73,7 +73,7 @@ decode-track-from-spec =
     returns-2
     refusal-of-requires
     returns-3
-    read-records-requires
+    read-visits-requires
     same-length
     same-length-2
     returns-4)

@@ -1,0 +1,45 @@
+use Rattle.page_side.specs.Frame.{wholeKey}
+use Rattle.page_side.proofs.FrameLaws.{three-entries}
+use borrow.Author.Needs.{needs}
+use Rattle.page_side.proofs.put_whole_key.Statement.{statement}
+use Rattle.page_side.proofs.put_whole_key.Tie as tie
+
+slice-aggregate-put-entry : tie.Need-slice-aggregate-put-entry
+slice-aggregate-put-entry c = search needs
+
+put-entry-requires : tie.Need-put-entry-requires
+put-entry-requires c κs = search needs
+
+slice-aggregate-put-entry-2 : tie.Need-slice-aggregate-put-entry-2
+slice-aggregate-put-entry-2 c = search needs
+
+put-entry-requires-2 : tie.Need-put-entry-requires-2
+put-entry-requires-2 c κs = search needs
+
+slice-aggregate-put-entry-3 : tie.Need-slice-aggregate-put-entry-3
+slice-aggregate-put-entry-3 c = search needs
+
+put-entry-requires-3 : tie.Need-put-entry-requires-3
+put-entry-requires-3 c κs = search needs
+
+same-length : tie.Need-same-length
+same-length c = search needs
+
+returns : tie.Need-returns
+unfolding wholeKey
+returns c = three-entries _ _ _ _ _ _ _ (c .before .before .before .before .before .before .before .before .before .before .before
+    .before .put-entry .ensures) (c .before .before .before .before .before .before .before .put-entry2 .ensures)
+    (c .before .before .put-entry3 .ensures)
+
+pub put-whole-key-spec : {M : Type 1} → statement M
+put-whole-key-spec =
+    tie.close
+    (tie.spec
+    slice-aggregate-put-entry
+    put-entry-requires
+    slice-aggregate-put-entry-2
+    put-entry-requires-2
+    slice-aggregate-put-entry-3
+    put-entry-requires-3
+    same-length
+    returns)

@@ -1,0 +1,9 @@
+pub mod Faults
+pub mod Sayings
+pub mod Settled
+pub mod Spoilt
+pub mod Rounds
+pub mod Keeping
+pub mod Below
+pub mod Silent
+pub mod ReadingBack
