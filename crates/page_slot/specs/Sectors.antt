@@ -1,6 +1,6 @@
 -- The sectors that are found in the ring recovered from a window, and in the whole window; and of those that the ring has not where they
 -- are, or why they do not read.
-use Prim.Native.Nat.{ℕ}
+use Prim.Native.Nat.{ℕ, zero, suc}
 use mathlib.Core.Bool.{Bool, false}
 use mathlib.Core.List.{List, [], _∷_, _++_}
 use lib.Dec.{eqb}
@@ -10,6 +10,7 @@ use Rattle.page.specs.Wording.{numberText}
 use Rattle.base.specs.Words.{ascii}
 use Rattle.page.specs.Page.{Text, together}
 use Rattle.track_read.specs.Answers.{ringStatuses}
+use Rattle.track_read.specs.Statuses.{given}
 use Rattle.page_lines.specs.Tally.{tallyText}
 use Rattle.page_status.specs.Meanings.{statusName}
 use Rattle.page_slot.specs.Turn.{turnStatuses}
@@ -23,14 +24,33 @@ has statuses j = eqb (getD statuses j 0) 1
 abbrev pub whereabouts : List ℕ → ℕ → List ℕ
 whereabouts turn j = pick (has turn j) (ascii " lost across the join") (ascii " only behind the span")
 
--- one that the window has not either: why, by its status in the ring
-abbrev pub whyText : ℕ → Text
-whyText status = ascii ": " ∷ statusName status ∷ []
+-- one that the window has not either: why, by its status in the ring; 1 where one of them has it
+abbrev pub whyOf : List ℕ → List ℕ → ℕ → ℕ
+whyOf ring window j = pick (has window j) given (getD ring j 0)
+
+-- neighbours that do not read for one reason stand together, and the reason behind the last of them
+abbrev pub likeNext : List ℕ → List ℕ → ℕ → Bool
+likeNext ring window j = eqb (whyOf ring window j) (whyOf ring window (suc j))
+
+abbrev pub likeBefore : List ℕ → List ℕ → ℕ → Bool
+likeBefore ring window zero = false
+likeBefore ring window (suc j) = likeNext ring window j
+
+abbrev pub leadText : Bool → Bool → List ℕ
+leadText before next = pick before [] (pick next (ascii "; sectors") (ascii "; sector"))
+
+abbrev pub reasonText : Bool → ℕ → Text
+reasonText next why = pick next [] (ascii ": " ∷ statusName why ∷ [])
+
+abbrev pub whyText : List ℕ → List ℕ → ℕ → Text
+whyText ring window j =
+    leadText (likeBefore ring window j) (likeNext ring window j) ∷ numberText j
+    ∷ reasonText (likeNext ring window j) (whyOf ring window j)
 
 abbrev pub lostAt : List ℕ → List ℕ → List ℕ → ℕ → Text
 lostAt ring turn window j =
     pick (has ring j) []
-    (ascii "; sector" ∷ numberText j ∷ pick (has window j) (whereabouts turn j ∷ []) (whyText (getD ring j 0)))
+    (pick (has window j) (ascii "; sector" ∷ numberText j ∷ whereabouts turn j ∷ []) (whyText ring window j))
 
 unfoldable pub lostText : List ℕ → List ℕ → List ℕ → Text
 lostText ring turn window = together (length ring) (lostAt ring turn window)

@@ -9,8 +9,10 @@ ghost use Rattle.page_slot.specs.Span.{spanText};
 ghost use Rattle.geometry.specs.Zones.{sectorsOf};
 ghost use Rattle.ring.specs.Bit.{IsRing};
 ghost use Rattle.page_slot.specs.Turn.{turnStatuses};
-ghost use Rattle.page_slot.specs.Sectors.{whyText, lostAt, lostText, foundText, sectorsText};
-ghost use mathlib.Core.List.{[]};
+ghost use Rattle.page_slot.specs.Sectors.{whyOf, likeNext, likeBefore, leadText, reasonText, whyText};
+ghost use Rattle.page_slot.specs.Sectors.{lostAt, lostText, foundText, sectorsText};
+ghost use Rattle.page.specs.Wording.{numberText};
+ghost use mathlib.Core.List.{[], _∷_};
 ghost use Rattle.base.specs.Choice.{pick};
 ghost use Rattle.page_slot.specs.Slots.{isWhole, trackOf, nameText, slotLine, slotText};
 ghost use Rattle.nib_catalogue.specs.declared.Pairs.the-variants.{Count};
@@ -48,12 +50,72 @@ fn turn_statuses(window: &[u8], span: usize, track: u8, part: &mut [u8])
     }
 }
 
-// Why a sector does not read.
-fn put_why(page: &mut [u8], at: usize, status: u8) -> usize
-    ensures { λ r. ⌜ sheet (now (page .exit)) r ≡ writes (sheet (now (page .entry)) at) (whyText status) ⌝ }
+// Why neither ring nor window has a sector, by its status in the ring; 1 where one of them has it.
+fn why_of(ring: &[u8], window: &[u8], j: usize) -> u8
+    ensures { λ r. ⌜ r ≡ whyOf (now (ring .entry)) (now (window .entry)) j ⌝ }
 {
+    if base::byte_or(window, j, 0) == 1 {
+        return track_read::HANDED_OUT;
+    }
+    base::byte_or(ring, j, 0)
+}
+
+// Is the reason that of the sector behind it?
+fn like_next(ring: &[u8], window: &[u8], j: usize) -> bool
+    requires { ⌜ j < length (now ring) ⌝ }
+    ensures { λ r. ⌜ r ≡ likeNext (now (ring .entry)) (now (window .entry)) j ⌝ }
+{
+    let why = why_of(ring, window, j);
+    why == why_of(ring, window, j + 1)
+}
+
+// Is it that of the sector before?
+fn like_before(ring: &[u8], window: &[u8], j: usize) -> bool
+    requires { ⌜ j < length (now ring) ⌝ }
+    ensures { λ r. ⌜ r ≡ likeBefore (now (ring .entry)) (now (window .entry)) j ⌝ }
+{
+    if j == 0 {
+        return false;
+    }
+    like_next(ring, window, j - 1)
+}
+
+// A sector's number, and before it the word for one or for several, unless it stands behind others.
+fn put_lead(page: &mut [u8], at: usize, before: bool, next: bool, j: usize) -> usize
+    ensures { λ r. ⌜ sheet (now (page .exit)) r
+        ≡ writes (sheet (now (page .entry)) at) (leadText before next ∷ numberText j ∷ []) ⌝ }
+{
+    if before {
+        return page::counted(page, at, b"", j as u64);
+    }
+    if next {
+        return page::counted(page, at, b"; sectors", j as u64);
+    }
+    page::counted(page, at, b"; sector", j as u64)
+}
+
+// The reason, behind the last that has it.
+fn put_reason(page: &mut [u8], at: usize, next: bool, why: u8) -> usize
+    ensures { λ r. ⌜ sheet (now (page .exit)) r ≡ writes (sheet (now (page .entry)) at) (reasonText next why) ⌝ }
+{
+    if next {
+        return at;
+    }
     let behind = page::words(page, at, b": ");
-    page_status::put_name(page, behind, status)
+    page_status::put_name(page, behind, why)
+}
+
+// A sector that neither has, and why.
+fn put_why(page: &mut [u8], at: usize, ring: &[u8], window: &[u8], j: usize) -> usize
+    requires { ⌜ j < length (now ring) ⌝ }
+    ensures { λ r. ⌜ sheet (now (page .exit)) r ≡ writes (sheet (now (page .entry)) at)
+        (whyText (now (ring .entry)) (now (window .entry)) j) ⌝ }
+{
+    let before = like_before(ring, window, j);
+    let next = like_next(ring, window, j);
+    let why = why_of(ring, window, j);
+    let behind = put_lead(page, at, before, next, j);
+    put_reason(page, behind, next, why)
 }
 
 // A sector that the ring has not: where the window has it, or why it does not read.
@@ -72,10 +134,10 @@ fn put_lost_at(
     if ring[j] == 1 {
         return at;
     }
-    let behind = page::counted(page, at, b"; sector", j as u64);
     if window[j] != 1 {
-        return put_why(page, behind, ring[j]);
+        return put_why(page, at, ring, window, j);
     }
+    let behind = page::counted(page, at, b"; sector", j as u64);
     if turn[j] == 1 {
         return page::words(page, behind, b" lost across the join");
     }

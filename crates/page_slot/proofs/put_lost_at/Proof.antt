@@ -2,25 +2,22 @@ use Rattle.page_slot.proofs.SectorLaws.{lost-ring, lost-neither, lost-a
 use borrow.Author.Needs.{needs}
 use Rattle.page_slot.proofs.put_lost_at.Statement.{statement}
 use Rattle.page_slot.proofs.put_lost_at.Tie as tie
+use Rattle.page_slot.proofs.put_lost_at.Reads as reads
+use Rattle.page_slot.proofs.put_lost_at.Lts as lts
+use Rattle.page.proofs.counted.Reads as counted-reads
+use Rattle.page.proofs.words.Reads as words-reads
+use Rattle.page_slot.proofs.put_why.Reads as put-why-reads
 
 shared-slice-read-if1 : tie.Need-shared-slice-read-if1
 shared-slice-read-if1 c = search needs
 
 returns : tie.Need-returns
-returns c = let a = c .before .before .before .before .before .before .args in lost-ring _ (a .ring .now) (a .turn .now)
-    (a .window .now) (a .j) (c .if1 .taken)
-
-slice-aggregate-counted : tie.Need-slice-aggregate-counted
-slice-aggregate-counted c = search needs
-
-counted-requires : tie.Need-counted-requires
-counted-requires c κs = search needs
+returns c =
+    let a = c .before .before .before .before .before .before .args in
+    lost-ring _ (a .ring .now) (a .turn .now) (a .window .now) (a .j) (c .if1 .taken)
 
 shared-slice-read-if2 : tie.Need-shared-slice-read-if2
 shared-slice-read-if2 c = search needs
-
-shared-slice-read-put-why : tie.Need-shared-slice-read-put-why
-shared-slice-read-put-why c = search needs
 
 put-why-requires : tie.Need-put-why-requires
 put-why-requires c κs = search needs
@@ -30,12 +27,16 @@ same-length c = search needs
 
 returns-2 : tie.Need-returns-2
 returns-2 c =
-    let a = c .before .before .before .before .before .before .before .before .before .before .before .before .before .before .before
-    .before .before .before .args in
-    lost-neither _ (a .ring .now) (a .turn .now) (a .window .now) (a .j) (c .before .before .before .before .before .before .before
-    .before .before .before .before .before .if1 .left) _ _ (c .before .before .before .before .before .before .before .before
-    .before .counted .ensures) (c .before .before .before .before .before .if2 .taken)
+    let e = c .before .before .before .before in
+    let a = e .before .before .before .before .before .before .before .before .args in
+    lost-neither _ (a .ring .now) (a .turn .now) (a .window .now) (a .j) (e .before .before .if1 .left) _ (e .if2 .taken)
     (c .before .before .put-why .ensures)
+
+slice-aggregate-counted : tie.Need-slice-aggregate-counted
+slice-aggregate-counted c = search needs
+
+counted-requires : tie.Need-counted-requires
+counted-requires c κs = search needs
 
 shared-slice-read-if3 : tie.Need-shared-slice-read-if3
 shared-slice-read-if3 c = search needs
@@ -51,11 +52,11 @@ same-length-2 c = search needs
 
 returns-3 : tie.Need-returns-3
 returns-3 c =
-    let a = c .before .before .before .before .before .before .before .before .before .before .before .before .before .before .before
-    .before .before .before .before .before .args in
-    lost-across _ (a .ring .now) (a .turn .now) (a .window .now) (a .j) (c .before .before .before .before .before .before .before
-    .before .before .before .before .before .before .before .if1 .left) _ _ (c .before .before .before .before .before .before
-    .before .before .before .before .before .counted .ensures) (c .before .before .before .before .before .before .before .if2 .left)
+    let f = c .before .before .before .before .before .before .before .before .before in
+    let e = f .before .before .before in
+    let a = e .before .before .before .before .before .before .before .before .args in
+    lost-across _ (a .ring .now) (a .turn .now) (a .window .now) (a .j) (e .before .before .if1 .left)
+    _ (e .if2 .left) _ (f .counted .ensures)
     (c .before .before .before .before .before .if3 .taken) (c .before .before .words .ensures)
 
 slice-aggregate-words-2 : tie.Need-slice-aggregate-words-2
@@ -69,11 +70,11 @@ same-length-3 c = search needs
 
 returns-4 : tie.Need-returns-4
 returns-4 c =
-    let a = c .before .before .before .before .before .before .before .before .before .before .before .before .before .before .before
-    .before .before .before .before .before .args in
-    lost-behind _ (a .ring .now) (a .turn .now) (a .window .now) (a .j) (c .before .before .before .before .before .before .before
-    .before .before .before .before .before .before .before .if1 .left) _ _ (c .before .before .before .before .before .before
-    .before .before .before .before .before .counted .ensures) (c .before .before .before .before .before .before .before .if2 .left)
+    let f = c .before .before .before .before .before .before .before .before .before in
+    let e = f .before .before .before in
+    let a = e .before .before .before .before .before .before .before .before .args in
+    lost-behind _ (a .ring .now) (a .turn .now) (a .window .now) (a .j) (e .before .before .if1 .left)
+    _ (e .if2 .left) _ (f .counted .ensures)
     (c .before .before .before .before .before .if3 .left) (c .before .before .words2 .ensures)
 
 pub put-lost-at-spec : {M : Type 1} → statement M
@@ -82,13 +83,12 @@ put-lost-at-spec =
     (tie.spec
     shared-slice-read-if1
     returns
-    slice-aggregate-counted
-    counted-requires
     shared-slice-read-if2
-    shared-slice-read-put-why
     put-why-requires
     same-length
     returns-2
+    slice-aggregate-counted
+    counted-requires
     shared-slice-read-if3
     slice-aggregate-words
     words-requires
