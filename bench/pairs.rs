@@ -37,9 +37,9 @@ pub fn build(disk: &[u8], track: u8) -> Case {
 }
 
 pub fn scan(name: String, ring: Vec<u8>, track: u8) -> Case {
-    let (mut rows, mut bytes, mut count) = (vec![0; 390], vec![0; 49_920], 0);
-    assert_eq!(port::scan(&ring, track, 0, &mut rows, &mut bytes, &mut count), 0);
-    assert_eq!(count as usize, gcr::scanned(&ring, track, 0));
+    let (mut rows, mut bytes, mut told) = (vec![0; 390], vec![0; 49_920], [0; 4]);
+    assert_eq!(port::scan(&ring, track, 0, &mut rows, &mut bytes, told.each_mut()), 0);
+    assert_eq!(told[0] as usize, gcr::scanned(&ring, track, 0));
     let same = ring.clone();
     case(
         name,
@@ -47,7 +47,7 @@ pub fn scan(name: String, ring: Vec<u8>, track: u8) -> Case {
             black_box(gcr::scanned(black_box(&ring), track, 0));
         },
         move || {
-            black_box(port::scan(black_box(&same), track, 0, &mut rows, &mut bytes, &mut count));
+            black_box(port::scan(black_box(&same), track, 0, &mut rows, &mut bytes, told.each_mut()));
         },
     )
 }
@@ -55,9 +55,9 @@ pub fn scan(name: String, ring: Vec<u8>, track: u8) -> Case {
 pub fn read(disk: &[u8], track: u8) -> Case {
     let ring = inputs::ring(disk, track);
     let same = ring.clone();
-    let (mut bytes, mut statuses, mut found) = (vec![0; 21 * 256], vec![0; 21], 0);
+    let (mut bytes, mut statuses, mut told) = (vec![0; 21 * 256], vec![0; 21], [0; 4]);
     let sectors = gcr::decode_track_from(&ring, track, 0).expect("a ring that is not empty");
-    assert_eq!(port::read(&ring, track, 0, &mut bytes, &mut statuses, &mut found), 0);
+    assert_eq!(port::read(&ring, track, 0, &mut bytes, &mut statuses, told.each_mut()), 0);
     assert!(sectors.iter().zip(bytes.chunks(256)).all(|(s, payload)| s.is_some_and(|s| s == payload)));
     case(
         format!("read track {track}"),
@@ -65,7 +65,7 @@ pub fn read(disk: &[u8], track: u8) -> Case {
             black_box(gcr::decode_track_from(black_box(&ring), track, 0));
         },
         move || {
-            black_box(port::read(black_box(&same), track, 0, &mut bytes, &mut statuses, &mut found));
+            black_box(port::read(black_box(&same), track, 0, &mut bytes, &mut statuses, told.each_mut()));
         },
     )
 }

@@ -13,7 +13,7 @@ enum { STACK = 1 << 20, PAINT = 0xA5, TRACKS = 35, HEAD = 684, ENTRY = 7930 };
 static uint8_t ring[FIELBMARU_WINDOW], disk[174848], g64[HEAD + TRACKS * ENTRY], nib[FIELBMARU_NIB_HEAD + TRACKS * FIELBMARU_WINDOW];
 static uint8_t image[sizeof nib > sizeof g64 ? sizeof nib : sizeof g64];
 static uint8_t payloads[21 * 256], scanned[FIELBMARU_SCAN_PAYLOADS], statuses[21], data[256];
-static uint64_t rows[FIELBMARU_SCAN_ROWS], lengths[FIELBMARU_SLOTS], count, at, span, zone, answer;
+static uint64_t rows[FIELBMARU_SCAN_ROWS], lengths[FIELBMARU_SLOTS], count, bad[3], at, span, zone, answer;
 static uint8_t zones[FIELBMARU_SLOTS];
 static struct fielbmaru_record records[FIELBMARU_SCAN_RECORDS];
 static size_t ring_len;
@@ -23,10 +23,21 @@ static void (*asked)(void);
 static uintptr_t called_at;
 
 static void nothing(void) {}
+static void encode_block(void) { answer = fielbmaru_encode_block(payloads, 260, scanned, sizeof scanned); }
+static void decode_block(void) { answer = fielbmaru_decode_block(ring + 29, 325, scanned, sizeof scanned, &at); }
 static void build(void) { answer = fielbmaru_build_track(1, payloads, sizeof payloads, NULL, 0, 65, 66, ring, sizeof ring); }
-static void scan(void) { answer = fielbmaru_scan(ring, ring_len, 1, 0, rows, FIELBMARU_SCAN_ROWS, scanned, sizeof scanned, &count); }
-static void scan_records(void) { answer = fielbmaru_scan_records(ring, ring_len, 1, 0, records, FIELBMARU_SCAN_RECORDS, &count); }
-static void decode(void) { answer = fielbmaru_decode_track(ring, ring_len, 1, 0, scanned, sizeof scanned, statuses, 21, &count); }
+static void scan(void)
+{
+    answer = fielbmaru_scan(ring, ring_len, 1, 0, rows, FIELBMARU_SCAN_ROWS, scanned, sizeof scanned, &count, bad, bad + 1, bad + 2);
+}
+static void scan_records(void)
+{
+    answer = fielbmaru_scan_records(ring, ring_len, 1, 0, records, FIELBMARU_SCAN_RECORDS, &count, bad, bad + 1, bad + 2);
+}
+static void decode(void)
+{
+    answer = fielbmaru_decode_track(ring, ring_len, 1, 0, scanned, sizeof scanned, statuses, 21, &count, bad, bad + 1, bad + 2);
+}
 static void read_unique(void) { answer = fielbmaru_read_unique(ring, ring_len, 1, 10, data); }
 static void read_consistent(void) { answer = fielbmaru_read_consistent(ring, ring_len, 1, 10, data); }
 static void replace_unique(void) { answer = fielbmaru_replace_unique(ring, ring_len, 1, 10, data); }
@@ -109,6 +120,8 @@ int main(void) {
     build();
     lengths[0] = ring_len, zones[0] = 3;
     printf("| function | bytes of stack |\n|---|---:|\n");
+    line("fielbmaru_encode_block", encode_block, NULL, 0);
+    line("fielbmaru_decode_block", decode_block, NULL, 0);
     line("fielbmaru_build_track", build, NULL, 0);
     line("fielbmaru_scan", scan, NULL, 0);
     line("fielbmaru_scan_records", scan_records, NULL, 0);

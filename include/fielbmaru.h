@@ -11,8 +11,8 @@
  *     gcc -I include mine.c target/staticlib/libfielbmaru.a
  *
  * WHAT IS RETURNED. Each function but fielbmaru_orbit returns 0 when it is done, or a refusal number. Refused, nothing that was
- * lent has changed: no byte, no row, no number behind a pointer. Where several refusals apply, the first in a function's own
- * list is returned.
+ * lent has changed: no byte, no row, no number behind a pointer, but for the one number of fielbmaru_decode_block that says which
+ * symbol was refused. Where several refusals apply, the first in a function's own list is returned.
  *
  * WHAT A CALLER MUST SEE TO. The proof says nothing about a call that breaks these:
  *   - a pointer is never NULL, also where its length is 0, and leads to as many bytes (or uint64_t or records, aligned) as its
@@ -45,7 +45,7 @@ extern "C" {
 #endif
 
 /* The version of the library; the file VERSION has the same. */
-#define FIELBMARU_VERSION "0.12.0"
+#define FIELBMARU_VERSION "0.13.0"
 
 /* The refusal numbers. (tests/refusals holds them to the library's other lists.) */
 #define FIELBMARU_DONE            0
@@ -61,7 +61,7 @@ extern "C" {
 #define FIELBMARU_WRONG_SUM      10  /* payload bytes not a multiple of 256; ring bytes not the sum of the ring lengths */
 #define FIELBMARU_NO_RECORD      11  /* no valid record of that sector */
 #define FIELBMARU_AMBIGUOUS      12  /* several records (unique rule), or differing ones (consistent rule) */
-#define FIELBMARU_ILLEGAL_SYMBOL 13  /* a five-bit symbol outside the table; no function here returns it */
+#define FIELBMARU_ILLEGAL_SYMBOL 13  /* a five-bit symbol outside the table; fielbmaru_decode_block alone returns it */
 
 /* Sizes. */
 #define FIELBMARU_MAX_RING       65535  /* bytes of the longest ring */
@@ -79,6 +79,10 @@ extern "C" {
 #define FIELBMARU_TRACK_BYTES(track) FIELBMARU_BY_ZONE(track, 7692, 7142, 6666, 6250)
 #define FIELBMARU_SECTORS(track)     FIELBMARU_BY_ZONE(track, 21, 19, 18, 17)
 
+/* The bytes of the code of a block of n bytes, and the bytes that a code of n bytes stands for. */
+#define FIELBMARU_CODE_BYTES(n)  (5 * (((n) + 3) / 4))
+#define FIELBMARU_BLOCK_BYTES(n) (4 * ((n) / 5))
+
 /* What fielbmaru_decode_track says of a sector: it was handed out, or why it is missing. They are the numbers of the error codes that
    build such a sector (below), and none of them is a refusal. */
 #define FIELBMARU_HANDED_OUT   1
@@ -87,6 +91,27 @@ extern "C" {
 #define FIELBMARU_NO_DATA      4  /* a true header, and no data block behind it: no sync, an illegal symbol, another marker or header */
 #define FIELBMARU_FALSE_DATA   5  /* a true header, and a data block whose checksum is false */
 #define FIELBMARU_FALSE_HEADER 9  /* no true header, but one with this sector number whose checksum is false */
+
+/*
+ * Codes a block of any length, group after group: four bytes give eight symbols of five bits, which are five bytes. A last group of
+ * fewer than four bytes is filled up with zeros. (A header is 8 bytes in 10, a data block 260 in 325.)
+ *
+ * out  FIELBMARU_CODE_BYTES(bytes_len) bytes at its front; what follows them is kept.
+ *
+ * Refused: NO_ROOM.
+ */
+uint64_t fielbmaru_encode_block(const uint8_t *bytes, size_t bytes_len, uint8_t *out, size_t out_len);
+
+/*
+ * Decodes the whole groups of a code; up to four bytes after them are not looked at.
+ *
+ * out     FIELBMARU_BLOCK_BYTES(code_len) bytes at its front; what follows them is kept.
+ * symbol  refused ILLEGAL_SYMBOL: the index of the first symbol outside the table, from 0 on, among all of the code's; symbol k is
+ *         the bits 5k to 5k + 4. It is where decoding stops, not where the damage lies. In every other case it is as it came.
+ *
+ * Refused: NO_ROOM, ILLEGAL_SYMBOL. Refused, `out` is as it came.
+ */
+uint64_t fielbmaru_decode_block(const uint8_t *code, size_t code_len, uint8_t *out, size_t out_len, uint64_t *symbol);
 
 /*
  * Builds a track: FIELBMARU_TRACK_BYTES(track) bytes at the front of `out`; what follows them in `out` is kept.
@@ -103,6 +128,20 @@ uint64_t fielbmaru_build_track(uint8_t track, const uint8_t *payloads, size_t pa
                                uint8_t id1, uint8_t id2, uint8_t *out, size_t out_len);
 
 /*
+ * Where blocks stop being legal. fielbmaru_scan, fielbmaru_scan_records and fielbmaru_decode_track tell the first symbol outside the
+ * table that the scan met in a header or in a data block, in the order of meeting:
+ *
+ * bad_block   FIELBMARU_NO_BAD_SYMBOL, FIELBMARU_BAD_HEADER or FIELBMARU_BAD_DATA.
+ * bad_symbol  its index among the 16 symbols of a header, or the 520 of a data block.
+ * bad_bit     the ring bit where it begins, below 8 * ring_len.
+ *
+ * Where none was met the last two are 0. It is where decoding stopped, which need not be where the damage is.
+ */
+#define FIELBMARU_NO_BAD_SYMBOL 0
+#define FIELBMARU_BAD_HEADER    1
+#define FIELBMARU_BAD_DATA      2
+
+/*
  * Lists every sector record of a ring, in the order in which one revolution from the start bit on meets them. A sector may be
  * met more than once.
  *
@@ -110,6 +149,7 @@ uint64_t fielbmaru_build_track(uint8_t track, const uint8_t *payloads, size_t pa
  *           ring's end (not reduced).
  * payloads  256 bytes for each record.
  * count     how many records there are. Rows and payloads behind them are kept.
+ * bad_block, bad_symbol, bad_bit  the first bad symbol (above).
  *
  * rows_len counts numbers, not bytes. Room for 195 records is needed, whatever is found: FIELBMARU_SCAN_ROWS and
  * FIELBMARU_SCAN_PAYLOADS.
@@ -117,7 +157,8 @@ uint64_t fielbmaru_build_track(uint8_t track, const uint8_t *payloads, size_t pa
  * Refused: NO_ROOM, RING_EMPTY, RING_TOO_LONG.
  */
 uint64_t fielbmaru_scan(const uint8_t *ring, size_t ring_len, uint8_t track, uint64_t start_bit, uint64_t *rows, size_t rows_len,
-                        uint8_t *payloads, size_t payloads_len, uint64_t *count);
+                        uint8_t *payloads, size_t payloads_len, uint64_t *count, uint64_t *bad_block, uint64_t *bad_symbol,
+                        uint64_t *bad_bit);
 
 /* A record: what is a row and a payload above. 272 bytes, with nothing between (examples/c/records.c holds the layout). */
 struct fielbmaru_record {
@@ -133,7 +174,8 @@ struct fielbmaru_record {
  * Refused: NO_ROOM, RING_EMPTY, RING_TOO_LONG.
  */
 uint64_t fielbmaru_scan_records(const uint8_t *ring, size_t ring_len, uint8_t track, uint64_t start_bit,
-                                struct fielbmaru_record *records, size_t records_len, uint64_t *count);
+                                struct fielbmaru_record *records, size_t records_len, uint64_t *count, uint64_t *bad_block,
+                                uint64_t *bad_symbol, uint64_t *bad_bit);
 
 /*
  * Reads all sectors of a track, each by its first record.
@@ -142,11 +184,13 @@ uint64_t fielbmaru_scan_records(const uint8_t *ring, size_t ring_len, uint8_t tr
  * statuses  a byte for each sector: FIELBMARU_HANDED_OUT, or one of the five numbers above that say why it is missing; the first true
  *           header of the sector that is met decides. Needs FIELBMARU_SECTORS(track) bytes.
  * found     how many sectors were handed out. Bytes behind the track's sectors are kept.
+ * bad_block, bad_symbol, bad_bit  the first bad symbol (above).
  *
  * Refused: NO_ROOM, RING_EMPTY, RING_TOO_LONG.
  */
 uint64_t fielbmaru_decode_track(const uint8_t *ring, size_t ring_len, uint8_t track, uint64_t start_bit, uint8_t *payloads,
-                                size_t payloads_len, uint8_t *statuses, size_t statuses_len, uint64_t *found);
+                                size_t payloads_len, uint8_t *statuses, size_t statuses_len, uint64_t *found, uint64_t *bad_block,
+                                uint64_t *bad_symbol, uint64_t *bad_bit);
 
 /*
  * Reads one sector of a ring, scanned from bit 0. The unique rule wants exactly one record of it; the consistent rule wants at

@@ -17,6 +17,47 @@ fn disk_track() -> Vec<u8> {
 }
 
 #[test]
+fn blocks_of_every_length() {
+    let bytes: Vec<u8> = (0..261).map(|i| (7 * i + i / 256) as u8).collect();
+    for n in 0..=260 {
+        let (mut code, mut back) = ([0xAA; 330], [0xAA; 264]);
+        assert_eq!(encode_block(&bytes[..n], &mut code).unwrap().len(), code_bytes(n));
+        let coded = code_bytes(n);
+        assert!(code[coded..].iter().all(|&b| b == 0xAA));
+        assert_eq!(decode_block(&code[..coded], &mut back).unwrap().len(), block_bytes(coded));
+        assert_eq!(back[..n], bytes[..n]);
+        assert!(back[n..block_bytes(coded)].iter().all(|&b| b == 0));
+        assert!(back[block_bytes(coded)..].iter().all(|&b| b == 0xAA));
+        if n > 0 {
+            assert_eq!(encode_block(&bytes[..n], &mut code[..coded - 1]), Err(Refusal::NoRoom));
+            let short = &mut back[..block_bytes(coded) - 1];
+            assert_eq!(decode_block(&code[..coded], short), Err(NotDecoded::Refused(Refusal::NoRoom)));
+        }
+    }
+}
+
+/// The symbols of a header and of a data block, each zeroed, are told by their indexes; of several, the first.
+#[test]
+fn symbols_outside_the_table() {
+    for n in [8, 260] {
+        let (mut code, mut back) = (vec![0; code_bytes(n)], vec![0xAA; n]);
+        encode_block(&vec![0; n], &mut code).unwrap();
+        for k in [0, 1, n, 2 * n - 2, 2 * n - 1] {
+            let mut bad = code.clone();
+            (5 * k..5 * k + 5).for_each(|bit| bad[bit / 8] &= !(0x80 >> (bit % 8)));
+            assert_eq!(decode_block(&bad, &mut back), Err(NotDecoded::IllegalSymbol(k)));
+            *bad.last_mut().unwrap() = 0;
+            assert_eq!(decode_block(&bad, &mut back), Err(NotDecoded::IllegalSymbol(k.min(2 * n - 2))));
+            assert!(back.iter().all(|&b| b == 0xAA));
+        }
+        code.extend([0; 4]);
+        assert_eq!(decode_block(&code, &mut back), Ok(&mut vec![0; n][..]));
+    }
+    let why = NotDecoded::IllegalSymbol(7);
+    assert_eq!((why.to_string(), Refusal::from(why)), ("refused 13 (IllegalSymbol) at symbol 7".into(), Refusal::IllegalSymbol));
+}
+
+#[test]
 fn sizes_of_every_track() {
     for track in 0..=255 {
         let mut ring = vec![0xAA; track_bytes(track) - 1];
@@ -25,7 +66,7 @@ fn sizes_of_every_track() {
         ring.push(0xAA);
         build_track(track, &[], &[], 1, 2, &mut ring).unwrap();
         let (mut payloads, mut statuses) = (vec![1; 256 * sectors(track)], vec![Status::NoSync; sectors(track)]);
-        assert_eq!(decode_track(&ring, track, 99, &mut payloads, &mut statuses), Ok(sectors(track)));
+        assert_eq!(decode_track(&ring, track, 99, &mut payloads, &mut statuses), Ok((sectors(track), None)));
         assert!(payloads.iter().all(|&b| b == 0) && statuses.iter().all(|&s| s == Status::HandedOut));
         assert_eq!(decode_track(&ring, track, 0, &mut payloads[1..], &mut statuses), Err(Refusal::NoRoom));
         assert_eq!(decode_track(&ring, track, 0, &mut payloads, &mut statuses[1..]), Err(Refusal::NoRoom));
@@ -39,7 +80,7 @@ fn statuses_of_codes() {
     let (codes, told) = ([1, 2, 3, 4, 5, 9, 11], [HandedOut, NoHeader, NoHeader, NoData, FalseData, FalseHeader, HandedOut]);
     let (mut ring, mut payloads, mut statuses) = ([0; 7142], [1; 256 * 19], [NoSync; 19]);
     build_track(18, &[7; 256 * 19], &codes, 1, 2, &mut ring).unwrap();
-    assert_eq!(decode_track(&ring, 18, 777, &mut payloads, &mut statuses), Ok(19 - 5));
+    assert_eq!(decode_track(&ring, 18, 777, &mut payloads, &mut statuses), Ok((19 - 5, None)));
     assert_eq!(statuses[..7], told);
     assert!(statuses[7..].iter().all(|&s| s == HandedOut));
     for (sector, payload) in payloads.chunks(256).enumerate() {
@@ -47,8 +88,29 @@ fn statuses_of_codes() {
     }
     assert_eq!(statuses[3..6].iter().map(|s| s.to_string()).collect::<Vec<_>>(), ["no data block", "data checksum", "header checksum"]);
     build_track(18, &[], &[3; 19], 1, 2, &mut ring).unwrap();
-    assert_eq!(decode_track(&ring, 18, 777, &mut payloads, &mut statuses), Ok(0));
+    assert_eq!(decode_track(&ring, 18, 777, &mut payloads, &mut statuses), Ok((0, None)));
     assert!(statuses.iter().all(|&s| s == NoSync));
+}
+
+/// Five bits forced to zero, and the first symbol outside the table that is then met, from one bit and from another.
+#[test]
+fn first_bad_symbols() {
+    let bad = |block, symbol, bit| Some(BadSymbol { block, symbol, bit });
+    let (mut payloads, mut statuses) = ([0; 256 * 21], [Status::NoSync; 21]);
+    for (from, start, known) in [
+        (100, 0, bad(Block::Header, 12, 100)),
+        (98, 0, bad(Block::Header, 11, 95)),
+        (267, 0, bad(Block::Data, 7, 267)),
+        (267, 60, bad(Block::Header, 7, 267)),
+    ] {
+        let mut ring = [0; 7692];
+        build_track(1, &[], &[], 0, 0, &mut ring).unwrap();
+        (from..from + 5).for_each(|bit| ring[bit / 8] &= !(0x80 >> (bit % 8)));
+        assert_eq!(decode_track(&ring, 1, start, &mut payloads, &mut statuses).unwrap().1, known);
+        assert_eq!(scan_records(&ring, 1, start, &mut [Record::ZEROS; SCAN_RECORDS]).unwrap().1, known);
+        assert_eq!(scan(&ring, 1, start, &mut [0; SCAN_ROWS], &mut [0; SCAN_PAYLOADS]).unwrap().1, known);
+    }
+    assert_eq!(decode_track(&[0xFF, 0xFE], 1, 0, &mut payloads, &mut statuses), Ok((0, bad(Block::Header, 1, 4))));
 }
 
 #[test]
@@ -86,7 +148,7 @@ fn records_of_a_ring() {
     let ring = built(31, &[5; 256]);
     let (mut rows, mut payloads) = ([77; SCAN_ROWS], [77; SCAN_PAYLOADS]);
     assert_eq!(scan(&ring, 31, 0, &mut rows[1..], &mut payloads), Err(Refusal::NoRoom));
-    assert_eq!(scan(&ring, 31, 1600, &mut rows, &mut payloads), Ok(17));
+    assert_eq!(scan(&ring, 31, 1600, &mut rows, &mut payloads), Ok((17, None)));
     assert_eq!((rows[0], rows[1]), (1, 8 * (368 + 29)));
     assert_eq!((rows[32], rows[33]), (0, 8 * (6250 + 29)));
     assert_eq!(payloads[256 * 16..256 * 17], [5; 256]);
@@ -102,8 +164,8 @@ fn records_as_structs() {
     assert_eq!(scan_records(&ring, 31, 0, &mut records[..SCAN_RECORDS - 1]), Err(Refusal::NoRoom));
     assert_eq!(scan_records(&[], 31, 0, &mut records), Err(Refusal::RingEmpty));
     assert!(records.iter().all(|record| *record == lent));
-    assert_eq!(scan(&ring, 31, 1600, &mut rows, &mut payloads), Ok(17));
-    assert_eq!(scan_records(&ring, 31, 1600, &mut records), Ok(17));
+    assert_eq!(scan(&ring, 31, 1600, &mut rows, &mut payloads), Ok((17, None)));
+    assert_eq!(scan_records(&ring, 31, 1600, &mut records), Ok((17, None)));
     for (n, record) in records[..17].iter().enumerate() {
         assert_eq!((record.sector, record.place), (rows[2 * n], rows[2 * n + 1]));
         assert_eq!(record.payload, payloads[256 * n..256 * (n + 1)]);

@@ -9,9 +9,12 @@ const SECTORS: usize = fielbmaru::sectors(TRACK);
 /// The missing sectors of a ring, and why they are missing.
 fn missing(ring: &[u8]) -> Result<Vec<(usize, Status)>, Refusal> {
     let (mut payloads, mut statuses) = ([0; 256 * SECTORS], [Status::NoSync; SECTORS]);
-    let found = fielbmaru::decode_track(ring, TRACK, 0, &mut payloads, &mut statuses)?;
+    let (found, bad) = fielbmaru::decode_track(ring, TRACK, 0, &mut payloads, &mut statuses)?;
     let missing: Vec<_> = statuses.into_iter().enumerate().filter(|&(_, status)| status != Status::HandedOut).collect();
     println!("{found} of {SECTORS} sectors; missing: {missing:?}");
+    if let Some(bad) = bad {
+        println!("first bad symbol: {} ({:?}), at bit {}", bad.symbol, bad.block, bad.bit);
+    }
     Ok(missing)
 }
 

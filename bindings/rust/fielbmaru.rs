@@ -53,7 +53,7 @@ pub enum Refusal {
     NoRecord = 11,
     /// Several records (unique rule), or differing ones (consistent rule).
     Ambiguous = 12,
-    /// A five-bit symbol outside the table; no function here returns it.
+    /// A five-bit symbol outside the table; [`decode_block`] alone refuses by it, and says which symbol it is.
     IllegalSymbol = 13,
     /// A number that this file does not know: the library is newer than it.
     Unknown = 255,
@@ -161,6 +161,70 @@ pub const fn sectors(track: u8) -> usize {
     }
 }
 
+/// The bytes of the code of a block of so many bytes: five for each group of four, the last one filled up with zeros.
+pub const fn code_bytes(bytes: usize) -> usize {
+    5 * ((bytes + 3) / 4)
+}
+
+/// The bytes that a code of so many bytes stands for: four for each whole group of five.
+pub const fn block_bytes(code: usize) -> usize {
+    4 * (code / 5)
+}
+
+/// Codes a block of any length at the front of `out`, and hands back that part, [`code_bytes`]; what follows it is kept.
+///
+/// Refused: `NoRoom`.
+pub fn encode_block<'a>(bytes: &[u8], out: &'a mut [u8]) -> Result<&'a mut [u8], Refusal> {
+    done(unsafe { linked::fielbmaru_encode_block(bytes.as_ptr(), bytes.len(), out.as_mut_ptr(), out.len()) })?;
+    Ok(&mut out[..code_bytes(bytes.len())])
+}
+
+/// Why a block was not decoded.
+#[derive(Clone, Copy, Debug, PartialEq, Eq, Hash)]
+pub enum NotDecoded {
+    /// The first symbol outside the table, counted from 0 among all of the block's: it is refusal 13, and stands in bits 5k to 5k + 4.
+    IllegalSymbol(usize),
+    /// Any other refusal.
+    Refused(Refusal),
+}
+
+impl fmt::Display for NotDecoded {
+    fn fmt(&self, f: &mut fmt::Formatter<'_>) -> fmt::Result {
+        match self {
+            NotDecoded::IllegalSymbol(k) => write!(f, "{} at symbol {k}", Refusal::IllegalSymbol),
+            NotDecoded::Refused(refusal) => refusal.fmt(f),
+        }
+    }
+}
+
+impl std::error::Error for NotDecoded {}
+
+/// The refusal alone.
+impl From<NotDecoded> for Refusal {
+    fn from(why: NotDecoded) -> Refusal {
+        match why {
+            NotDecoded::IllegalSymbol(_) => Refusal::IllegalSymbol,
+            NotDecoded::Refused(refusal) => refusal,
+        }
+    }
+}
+
+/// Decodes the whole groups of a code at the front of `out`, and hands back that part, [`block_bytes`]; what follows it is kept. Up to
+/// four bytes after the groups are not looked at.
+///
+/// Refused: `NoRoom`, and by the index of the first symbol outside the table.
+pub fn decode_block<'a>(code: &[u8], out: &'a mut [u8]) -> Result<&'a mut [u8], NotDecoded> {
+    let mut symbol = 0;
+    let number = unsafe {
+        linked::fielbmaru_decode_block(code.as_ptr(), code.len(), out.as_mut_ptr(), out.len(), &mut symbol)
+    };
+    match done(number) {
+        Ok(()) => Ok(&mut out[..block_bytes(code.len())]),
+        Err(Refusal::IllegalSymbol) => Err(NotDecoded::IllegalSymbol(symbol as usize)),
+        Err(refusal) => Err(NotDecoded::Refused(refusal)),
+    }
+}
+
 /// Builds a track at the front of `out`, and hands back that part; what follows it is kept.
 ///
 /// `payloads` has 256 bytes for each sector from sector 0 on, `codes` an error code for each, as in the error bytes of a D64.
@@ -191,7 +255,46 @@ pub fn build_track<'a>(
     Ok(&mut out[..track_bytes(track)])
 }
 
-/// Lists every sector record that one revolution from the start bit on meets, and returns how many there are.
+/// The blocks that a scan looks at.
+#[derive(Clone, Copy, Debug, PartialEq, Eq, Hash)]
+pub enum Block {
+    /// A header, of 16 symbols.
+    Header,
+    /// A data block, of 520.
+    Data,
+}
+
+/// The first symbol outside the table that a scan met, in the order of meeting: where decoding stopped, which need not be where the
+/// damage is.
+#[derive(Clone, Copy, Debug, PartialEq, Eq, Hash)]
+pub struct BadSymbol {
+    pub block: Block,
+    /// Its index among the symbols of the block.
+    pub symbol: usize,
+    /// The bit of the ring where it begins.
+    pub bit: usize,
+}
+
+/// The three numbers of a bad symbol, lent to a scan.
+#[derive(Default)]
+struct Told {
+    block: u64,
+    symbol: u64,
+    bit: u64,
+}
+
+impl Told {
+    fn symbol(&self) -> Option<BadSymbol> {
+        let block = match self.block {
+            1 => Block::Header,
+            2 => Block::Data,
+            _ => return None,
+        };
+        Some(BadSymbol { block, symbol: self.symbol as usize, bit: self.bit as usize })
+    }
+}
+
+/// Lists every sector record that one revolution from the start bit on meets, and returns how many there are, and the first bad symbol.
 ///
 /// `rows` gets two numbers a record, its sector and the bit where its data block begins (counted on past the ring's end),
 /// `payloads` 256 bytes a record. Room is needed for [`SCAN_ROWS`] and [`SCAN_PAYLOADS`].
@@ -203,8 +306,8 @@ pub fn scan(
     start_bit: u64,
     rows: &mut [u64],
     payloads: &mut [u8],
-) -> Result<usize, Refusal> {
-    let mut count = 0;
+) -> Result<(usize, Option<BadSymbol>), Refusal> {
+    let (mut count, mut told) = (0, Told::default());
     done(unsafe {
         linked::fielbmaru_scan(
             ring.as_ptr(),
@@ -216,9 +319,12 @@ pub fn scan(
             payloads.as_mut_ptr(),
             payloads.len(),
             &mut count,
+            &mut told.block,
+            &mut told.symbol,
+            &mut told.bit,
         )
     })?;
-    Ok(count as usize)
+    Ok((count as usize, told.symbol()))
 }
 
 /// A record: its sector, the bit where its data block begins, and its payload. Laid out as the header's `fielbmaru_record`.
@@ -238,8 +344,13 @@ impl Record {
 /// As [`scan`], into a list of records. Room is needed for [`SCAN_RECORDS`]; records behind the last one found are kept.
 ///
 /// Refused: `NoRoom`, `RingEmpty`, `RingTooLong`.
-pub fn scan_records(ring: &[u8], track: u8, start_bit: u64, records: &mut [Record]) -> Result<usize, Refusal> {
-    let mut count = 0;
+pub fn scan_records(
+    ring: &[u8],
+    track: u8,
+    start_bit: u64,
+    records: &mut [Record],
+) -> Result<(usize, Option<BadSymbol>), Refusal> {
+    let (mut count, mut told) = (0, Told::default());
     done(unsafe {
         linked::fielbmaru_scan_records(
             ring.as_ptr(),
@@ -249,12 +360,15 @@ pub fn scan_records(ring: &[u8], track: u8, start_bit: u64, records: &mut [Recor
             records.as_mut_ptr(),
             records.len(),
             &mut count,
+            &mut told.block,
+            &mut told.symbol,
+            &mut told.bit,
         )
     })?;
-    Ok(count as usize)
+    Ok((count as usize, told.symbol()))
 }
 
-/// Reads all sectors of a track, each by its first record, and returns how many were found.
+/// Reads all sectors of a track, each by its first record, and returns how many were found, and the first bad symbol.
 ///
 /// `payloads` gets 256 bytes a sector, zeros for a missing one; `statuses` gets a [`Status`] a sector. Whatever stands there before, a
 /// refusal keeps it, as it keeps all that is lent: [`Status::NoSync`] will do.
@@ -266,8 +380,8 @@ pub fn decode_track(
     start_bit: u64,
     payloads: &mut [u8],
     statuses: &mut [Status],
-) -> Result<usize, Refusal> {
-    let mut found = 0;
+) -> Result<(usize, Option<BadSymbol>), Refusal> {
+    let (mut found, mut told) = (0, Told::default());
     // A status is a byte, and each number that is written is one of the six: it is proved that they are, by the contract of the function.
     done(unsafe {
         linked::fielbmaru_decode_track(
@@ -280,9 +394,12 @@ pub fn decode_track(
             statuses.as_mut_ptr().cast(),
             statuses.len(),
             &mut found,
+            &mut told.block,
+            &mut told.symbol,
+            &mut told.bit,
         )
     })?;
-    Ok(found as usize)
+    Ok((found as usize, told.symbol()))
 }
 
 /// Reads a sector of which the ring, scanned from bit 0, has exactly one record.
@@ -405,6 +522,8 @@ pub fn clear_nib(image: &mut [u8]) -> Result<Cleared, Refusal> {
 mod linked {
     #[link(name = "fielbmaru", kind = "static")]
     extern "C" {
+        pub fn fielbmaru_encode_block(bytes: *const u8, bytes_len: usize, out: *mut u8, out_len: usize) -> u64;
+        pub fn fielbmaru_decode_block(code: *const u8, code_len: usize, out: *mut u8, out_len: usize, symbol: *mut u64) -> u64;
         pub fn fielbmaru_build_track(
             track: u8,
             payloads: *const u8,
@@ -426,6 +545,9 @@ mod linked {
             payloads: *mut u8,
             payloads_len: usize,
             count: *mut u64,
+            bad_block: *mut u64,
+            bad_symbol: *mut u64,
+            bad_bit: *mut u64,
         ) -> u64;
         pub fn fielbmaru_scan_records(
             ring: *const u8,
@@ -435,6 +557,9 @@ mod linked {
             records: *mut super::Record,
             records_len: usize,
             count: *mut u64,
+            bad_block: *mut u64,
+            bad_symbol: *mut u64,
+            bad_bit: *mut u64,
         ) -> u64;
         pub fn fielbmaru_decode_track(
             ring: *const u8,
@@ -446,6 +571,9 @@ mod linked {
             statuses: *mut u8,
             statuses_len: usize,
             found: *mut u64,
+            bad_block: *mut u64,
+            bad_symbol: *mut u64,
+            bad_bit: *mut u64,
         ) -> u64;
         pub fn fielbmaru_read_unique(ring: *const u8, ring_len: usize, track: u8, sector: u8, out: *mut [u8; 256]) -> u64;
         pub fn fielbmaru_read_consistent(ring: *const u8, ring_len: usize, track: u8, sector: u8, out: *mut [u8; 256]) -> u64;

@@ -2,6 +2,7 @@
 use crate::asked;
 use crate::draw::{sum_of, Sum};
 use crate::machine::Asks;
+use crate::symbols;
 
 pub struct Lines;
 
@@ -20,9 +21,38 @@ fn into_room(word: &str, made: asked::Answer<Vec<u8>>, room: &mut [u8]) -> Strin
     }
 }
 
+// The first bad symbol of a scan, where there is one: the model's.
+fn met([block, symbol, bit]: [u64; 3]) -> String {
+    match block {
+        symbols::HEADER => format!(" header symbol {symbol} bit {bit}"),
+        symbols::DATA => format!(" data symbol {symbol} bit {bit}"),
+        _ => String::new(),
+    }
+}
+
+// That of a ring from bit 0 on, as a sector is looked for.
+fn met_in(ring: &[u8], track: u8) -> String {
+    asked::scan(ring, track, 0, true).map_or(String::new(), |scan| met(scan.bad))
+}
+
 impl Asks for Lines {
     fn heading(&mut self, row: &str) -> String {
         row.to_string()
+    }
+
+    fn encode_block(&mut self, bytes: &[u8], room: &mut [u8]) -> String {
+        into_room("coded", asked::encode_block(bytes, room.len()), room)
+    }
+
+    // The index of the symbol is the model's.
+    fn decode_block(&mut self, code: &[u8], room: &mut [u8]) -> String {
+        match asked::decode_block(code, room.len()) {
+            Err(13) => {
+                let k = symbols::of_block(code).expect("a bad symbol");
+                format!("refused 13 symbol {k} sum {:08X}\n", sum_of(room))
+            }
+            answer => into_room("decoded", answer, room),
+        }
     }
 
     fn build(&mut self, [track, id1, id2]: [u8; 3], payloads: &[u8], codes: &[u8], room: &mut [u8]) -> String {
@@ -31,14 +61,14 @@ impl Asks for Lines {
 
     fn scan(&mut self, ring: &[u8], track: u8, start: u64, rows: usize) -> String {
         match asked::scan(ring, track, start, rows >= asked::RECORDS) {
-            Ok(records) => {
+            Ok(scan) => {
                 let mut sum = Sum::new();
-                for record in &records {
+                for record in &scan.records {
                     sum.byte(record.sector);
                     sum.number(record.place);
                     sum.bytes(&record.payload);
                 }
-                format!("records {} sum {:08X}\n", records.len(), sum.0)
+                format!("records {}{} sum {:08X}\n", scan.records.len(), met(scan.bad), sum.0)
             }
             Err(number) => format!("refused {number}\n"),
         }
@@ -53,7 +83,7 @@ impl Asks for Lines {
                     sum.bytes(&sector.unwrap_or([0; 256]));
                 }
                 let statuses: String = read.statuses.iter().map(u8::to_string).collect();
-                format!("found {} status {statuses} sum {:08X}\n", read.found(), sum.0)
+                format!("found {} status {statuses}{} sum {:08X}\n", read.found(), met(read.bad), sum.0)
             }
             Err(number) => format!("refused {number}\n"),
         }
@@ -61,15 +91,16 @@ impl Asks for Lines {
 
     fn sector(&mut self, ring: &[u8], track: u8, sector: u8, unique: bool) -> String {
         match asked::sector(ring, track, sector, unique) {
-            Ok(bytes) => format!("sector sum {:08X}\n", sum_of(&bytes)),
+            Ok(bytes) => format!("sector{} sum {:08X}\n", met_in(ring, track), sum_of(&bytes)),
             Err(number) => format!("refused {number}\n"),
         }
     }
 
     // The sum is over the ring as it then is.
     fn replace(&mut self, ring: &mut [u8], track: u8, sector: u8, bytes: &[u8; 256], unique: bool) -> String {
+        let came = met_in(ring, track);
         match asked::replace(ring, track, sector, bytes, unique) {
-            Ok(()) => format!("written sum {:08X}\n", sum_of(ring)),
+            Ok(()) => format!("written{came} sum {:08X}\n", sum_of(ring)),
             Err(number) => refused(number, ring),
         }
     }

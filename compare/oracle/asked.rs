@@ -2,6 +2,7 @@
 // document's, chosen by a plain test, or by which of the original's own steps gave nothing.
 use crate::fdd1541::{gcr, nib, reclaim};
 use crate::statuses;
+use crate::symbols;
 
 pub const MAX_RING: usize = 65_535;
 pub const SLOTS: usize = 84;
@@ -35,7 +36,13 @@ pub fn build(track: u8, payloads: &[u8], codes: &[u8], id1: u8, id2: u8, room: u
     Ok(built)
 }
 
-pub fn scan(ring: &[u8], track: u8, start: u64, room: bool) -> Answer<Vec<gcr::Record>> {
+// A scan's records, and its first bad symbol, which is the document's (symbols.rs): block, symbol, ring bit.
+pub struct Scan {
+    pub records: Vec<gcr::Record>,
+    pub bad: [u64; 3],
+}
+
+pub fn scan(ring: &[u8], track: u8, start: u64, room: bool) -> Answer<Scan> {
     if !room {
         return Err(7);
     }
@@ -44,13 +51,15 @@ pub fn scan(ring: &[u8], track: u8, start: u64, room: bool) -> Answer<Vec<gcr::R
     if records.len() > RECORDS {
         return Err(9);
     }
-    Ok(records)
+    let bad = symbols::of_scan(ring, track, start, &records);
+    Ok(Scan { records, bad })
 }
 
-// A track as the original reads it, and the status of each sector, which is the document's (statuses.rs).
+// A track as the original reads it; and the document's: the status of each sector (statuses.rs), the scan's first bad symbol.
 pub struct Track {
     pub sectors: Vec<Option<[u8; 256]>>,
     pub statuses: Vec<u8>,
+    pub bad: [u64; 3],
 }
 
 impl Track {
@@ -65,8 +74,30 @@ pub fn read(ring: &[u8], track: u8, start: u64, room: bool) -> Answer<Track> {
     }
     tested(ring)?;
     let sectors = gcr::decode_track_from(ring, track, start as usize).expect("a ring that is not empty");
-    let statuses = statuses::of_track(ring, track, start, &sectors);
-    Ok(Track { sectors, statuses })
+    let records = gcr::records(ring, track, start);
+    let statuses = statuses::of_track(ring, track, start, &sectors, &records);
+    let bad = symbols::of_scan(ring, track, start, &records);
+    Ok(Track { sectors, statuses, bad })
+}
+
+pub fn encode_block(bytes: &[u8], room: usize) -> Answer<Vec<u8>> {
+    let code = gcr::encode_block(bytes);
+    if room < code.len() {
+        return Err(7);
+    }
+    Ok(code)
+}
+
+// The original decodes as many bytes as it is asked for, and none is too few: docs/RULES.md takes all whole groups. Refused 13,
+// the index is the model's, which must find one where the original refuses, and only there.
+pub fn decode_block(code: &[u8], room: usize) -> Answer<Vec<u8>> {
+    let n = code.len() / 5 * 4;
+    if room < n {
+        return Err(7);
+    }
+    let bytes = if n == 0 { Some(Vec::new()) } else { gcr::decode_block(code, n) };
+    assert_eq!(bytes.is_none(), symbols::of_block(code).is_some());
+    bytes.ok_or(13)
 }
 
 // Why a rule gives no sector: 11 where no record has that number, else 12.

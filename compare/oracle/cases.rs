@@ -185,6 +185,7 @@ pub fn of_kind(kind: &str, seed: u64, scale: u64) -> Vec<u8> {
     c.store(Buffer::Target, 0, TARGET as u32, 0);
     c.store(Buffer::Source, 0, SOURCE as u32, 0);
     match kind {
+        "block" => crate::cases_block::all(&mut c),
         "build" => crate::cases_build::all(&mut c),
         "scan" => crate::cases_scan::all(&mut c),
         "sector" => crate::cases_sector::all(&mut c),

@@ -2,6 +2,7 @@
 use crate::cases::{Buffer, Cases, Ring, ZONE_TRACKS};
 use crate::cases_slips;
 use crate::cases_status;
+use crate::cases_symbols;
 
 fn starts(c: &mut Cases) {
     c.heading("built tracks from many bits");
@@ -211,4 +212,5 @@ pub fn all(c: &mut Cases) {
     refusals(c);
     cases_slips::all(c);
     cases_status::all(c);
+    cases_symbols::all(c);
 }

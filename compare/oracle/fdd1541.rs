@@ -61,6 +61,17 @@ pub mod gcr {
         decode_gcr_block(&read_circular_bytes(ring, bit, bytes / 4 * 5), bytes)
     }
 
+    // A block's code, and the bytes of a code's first groups; none where a symbol is illegal or groups are missing.
+    pub fn encode_block(bytes: &[u8]) -> Vec<u8> {
+        let mut code = Vec::new();
+        append_gcr(&mut code, bytes);
+        code
+    }
+
+    pub fn decode_block(code: &[u8], bytes: usize) -> Option<Vec<u8>> {
+        decode_gcr_block(code, bytes)
+    }
+
     pub fn set_bit(ring: &mut [u8], bit: usize, value: u8) {
         write_bit(ring, bit, value);
     }

@@ -16,6 +16,8 @@ pub const SCRATCH: usize = 0x33A00;
 // Who is asked: each answer is a line, with what was lent as it then is.
 pub trait Asks {
     fn heading(&mut self, row: &str) -> String;
+    fn encode_block(&mut self, bytes: &[u8], room: &mut [u8]) -> String;
+    fn decode_block(&mut self, code: &[u8], room: &mut [u8]) -> String;
     fn build(&mut self, track_and_ids: [u8; 3], payloads: &[u8], codes: &[u8], room: &mut [u8]) -> String;
     fn scan(&mut self, ring: &[u8], track: u8, start: u64, rows: usize) -> String;
     fn read(&mut self, ring: &[u8], track: u8, start: u64) -> String;
@@ -117,6 +119,14 @@ impl Machine<'_> {
         block[257] = block[1..257].iter().fold(0, |sum, byte| sum ^ byte);
     }
 
+    fn encode_block(&mut self, r: &Row) -> String {
+        self.asks.encode_block(part(&self.source, r.f[2], r.f[3]), part_mut(&mut self.target, r.f[0], r.f[1]))
+    }
+
+    fn decode_block(&mut self, r: &Row) -> String {
+        self.asks.decode_block(part(&self.source, r.f[2], r.f[3]), part_mut(&mut self.target, r.f[0], r.f[1]))
+    }
+
     fn build(&mut self, r: &Row) -> String {
         let payloads = part(&self.source, r.f[3], r.f[4]);
         let codes = part(&self.source, CODES as u32, r.f[5]);
@@ -172,6 +182,8 @@ impl Machine<'_> {
             b'G' => self.write_code(r),
             b'Q' => self.check_byte(r),
             b'T' => drop(self.build(r)),
+            b'b' => return self.encode_block(r),
+            b'd' => return self.decode_block(r),
             b'B' => return self.build(r),
             b'U' => return self.replace(r, true),
             b'K' => return self.replace(r, false),

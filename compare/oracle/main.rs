@@ -1,12 +1,14 @@
 // The original beside the port: its files, included unchanged (fdd1541.rs), and a program that asks them.
 //   oracle groups               the lines of replay_groups
 //   oracle dropouts             the lines of replay_dropouts
+//   oracle symbols              rings whose first bad symbol is known, each with the model's word
 //   oracle cases KIND [SEED [SCALE]]   rows that describe cases, for a program's standard input
 //   oracle answer               reads rows, writes the original's answers, with the statuses of the model
 // compare/README.md describes rows and answers.
 mod answers;
 mod asked;
 mod cases;
+mod cases_block;
 mod cases_build;
 mod cases_clear_nib;
 mod cases_d64;
@@ -17,13 +19,16 @@ mod cases_scan;
 mod cases_sector;
 mod cases_slips;
 mod cases_status;
+mod cases_symbols;
 mod draw;
 mod dropouts;
 pub mod fdd1541;
 mod groups;
+mod known;
 mod machine;
 mod rows;
 mod statuses;
+mod symbols;
 
 use std::io::{self, Read, Write};
 
@@ -36,6 +41,7 @@ fn main() {
     let out = match words.get(1).map(String::as_str) {
         Some("groups") => groups::lines(),
         Some("dropouts") => dropouts::lines(),
+        Some("symbols") => known::lines(),
         Some("cases") => {
             let kind = words.get(2).expect("cases KIND [SEED [SCALE]]");
             cases::of_kind(kind, number(words.get(3), 1), number(words.get(4), 1))
@@ -46,7 +52,7 @@ fn main() {
             machine::run(&rows, &mut answers::Lines)
         }
         _ => {
-            eprintln!("oracle groups | oracle dropouts | oracle cases KIND [SEED [SCALE]] | oracle answer");
+            eprintln!("oracle groups | dropouts | symbols | cases KIND [SEED [SCALE]] | answer");
             std::process::exit(2);
         }
     };

@@ -86,9 +86,9 @@ fn status(sector: u8, is_given: bool, met: &[Option<Header>]) -> u8 {
 
 // `given` is what the original's reader hands out for each sector. That the visits are those of the original's scan shows in
 // its records: the same sectors and data places, in the same order.
-pub fn of_track(ring: &[u8], track: u8, start: u64, given: &[Option<[u8; 256]>]) -> Vec<u8> {
+pub fn of_track(ring: &[u8], track: u8, start: u64, given: &[Option<[u8; 256]>], records: &[gcr::Record]) -> Vec<u8> {
     let met = visits(ring, track, start);
-    let records = gcr::records(ring, track, start).into_iter().map(|r| (r.sector, r.place));
+    let records = records.iter().map(|r| (r.sector, r.place));
     assert!(records.eq(met.iter().flatten().filter_map(Header::record)), "track {track}, start {start}: another scan");
     (0..).zip(given).map(|(sector, payload)| status(sector, payload.is_some(), &met)).collect()
 }

@@ -1,8 +1,10 @@
 // The unchanged Rust and the proved library in one program: every result of every exported function, compared.
 //   beside SEED SIZE
 mod asked;
+mod blocks;
 mod building;
 mod cases;
+mod cases_block;
 mod cases_build;
 mod cases_clear_nib;
 mod cases_d64;
@@ -13,6 +15,7 @@ mod cases_scan;
 mod cases_sector;
 mod cases_slips;
 mod cases_status;
+mod cases_symbols;
 mod craft;
 mod disks;
 mod draw;
@@ -20,6 +23,7 @@ pub mod fdd1541;
 mod files;
 mod images;
 mod judge;
+mod known;
 mod lent;
 mod machine;
 mod port;
@@ -28,6 +32,8 @@ mod small_rings;
 mod status_rings;
 mod statuses;
 mod stored;
+mod symbol_rings;
+mod symbols;
 mod tally;
 mod tracks;
 mod windows;
@@ -41,7 +47,7 @@ fn main() {
     let mut judge = Judge::new(seed);
     let mut choose = Chooser::new(seed);
     stored::all(&mut judge, seed, size);
-    let parts: [fn(&mut Judge, &mut Chooser, u64); 8] = [
+    let parts: [fn(&mut Judge, &mut Chooser, u64); 10] = [
         building::all,
         small_rings::all,
         tracks::all,
@@ -50,6 +56,8 @@ fn main() {
         disks::all,
         images::all,
         status_rings::all,
+        symbol_rings::all,
+        blocks::all,
     ];
     for part in parts {
         part(&mut judge, &mut choose, size);

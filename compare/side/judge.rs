@@ -1,9 +1,10 @@
 // Asks both sides the same, and compares the answer's number, every value told, and every byte and number lent, with an
 // edge around it. The original's answer is worded by oracle/asked.rs.
-use crate::asked::{self, Answer};
+use crate::asked::{self, Answer, Scan};
 use crate::fdd1541::{gcr, nib};
 use crate::lent::Lent;
 use crate::port;
+use crate::symbols;
 use crate::tally::{Function, Tally};
 
 pub struct Judge {
@@ -13,6 +14,7 @@ pub struct Judge {
     salt: u64,
     rows: Lent<u64>,
     payloads: Lent<u8>,
+    records: Lent<u64>,
 }
 
 // The rooms of scanning are made once, with as much spare room as is ever lent.
@@ -45,6 +47,18 @@ fn shown(bytes: &[u8]) -> String {
     format!("{} bytes {start}{}", bytes.len(), if bytes.len() > 24 { ".." } else { "" })
 }
 
+// The four numbers that a scan tells.
+fn four(told: &mut [u64]) -> port::Told<'_> {
+    let [things, block, symbol, bit] = told else { unreachable!() };
+    [things, block, symbol, bit]
+}
+
+fn asked_of(ring: &[u8], track: u8, start: u64, want: u64, number: u64, told: &mut Lent<u64>) -> String {
+    let (given, wanted) = (told.given().to_vec(), told.want().to_vec());
+    let ring = shown(ring);
+    format!("track {track}, start {start}, ring {ring}: {number} for {want}, told {given:?} for {wanted:?}")
+}
+
 impl Judge {
     pub fn new(salt: u64) -> Judge {
         Judge {
@@ -53,6 +67,7 @@ impl Judge {
             salt,
             rows: Lent::room(asked::SCAN_NUMBERS + SPARE, salt),
             payloads: Lent::room(asked::SCAN_BYTES + SPARE, salt),
+            records: Lent::room(port::RECORD_NUMBERS * (asked::RECORDS + SPARE), salt),
         }
     }
 
@@ -91,66 +106,149 @@ impl Judge {
         answer
     }
 
-    // Lent are so many numbers for rows, and so many bytes for payloads. The rooms serve again until they are written.
+    // A scan into rows and payloads, for which so many numbers and bytes are lent; and the same into records, of which as many
+    // are lent as there are rows.
     pub fn scan(&mut self, ring: &[u8], track: u8, start: u64, numbers: usize, bytes: usize) -> Vec<gcr::Record> {
-        let room = numbers >= asked::SCAN_NUMBERS && bytes >= asked::SCAN_BYTES;
+        let rows = numbers >= asked::SCAN_NUMBERS;
+        let room = rows && bytes >= asked::SCAN_BYTES;
         let answer = asked::scan(ring, track, start, room);
-        let mut count = self.numbers(1);
-        self.rows.lend(numbers);
-        self.payloads.lend(bytes);
-        if let Ok(records) = &answer {
-            for (k, record) in records.iter().enumerate() {
-                self.rows.want()[2 * k..2 * k + 2].copy_from_slice(&[u64::from(record.sector), record.place]);
-                self.payloads.want()[256 * k..256 * k + 256].copy_from_slice(&record.payload);
-            }
-            count.want()[0] = records.len() as u64;
+        self.scan_rows(ring, track, start, [numbers, bytes], &answer);
+        if room == rows {
+            self.scan_records(ring, track, start, numbers / 2, &answer);
+        } else {
+            self.scan_records(ring, track, start, numbers / 2, &asked::scan(ring, track, start, rows));
+        }
+        answer.map_or_else(|_| Vec::new(), |scan| scan.records)
+    }
+
+    // What is told beside rows and payloads: how many there are, and the first bad symbol.
+    fn told(&mut self, things: usize, bad: [u64; 3]) -> Lent<u64> {
+        let mut told = self.numbers(4);
+        told.want().copy_from_slice(&[things as u64, bad[0], bad[1], bad[2]]);
+        self.tally.bad_symbol(bad[0]);
+        told
+    }
+
+    // The rooms serve again until they are written.
+    fn scan_rows(&mut self, ring: &[u8], track: u8, start: u64, room: [usize; 2], answer: &Answer<Scan>) {
+        self.rows.lend(room[0]);
+        self.payloads.lend(room[1]);
+        let mut told = match answer {
+            Ok(scan) => self.told(scan.records.len(), scan.bad),
+            Err(_) => self.numbers(4),
+        };
+        for (k, record) in answer.iter().flat_map(|scan| &scan.records).enumerate() {
+            self.rows.want()[2 * k..2 * k + 2].copy_from_slice(&[u64::from(record.sector), record.place]);
+            self.payloads.want()[256 * k..256 * k + 256].copy_from_slice(&record.payload);
         }
         let kept = ring.to_vec();
         let (rows, payloads) = (self.rows.given(), self.payloads.given());
-        let number = port::scan(ring, track, start, rows, payloads, &mut count.given()[0]);
-        let lent = count.as_wanted() && self.rows.as_wanted() && self.payloads.as_wanted();
-        let same = number == number_of(&answer) && lent && kept == ring;
-        let faults = [self.rows.first_fault(), self.payloads.first_fault(), count.first_fault()];
-        let words = || {
-            let (want, ring) = (number_of(&answer), shown(ring));
-            format!(
-                "track {track}, start {start}, ring {ring}, rooms {numbers}, {bytes}: {number} for {want}, {faults:?}"
-            )
-        };
-        self.tell(Function::Scan, verdict(&answer, same, Vec::len), words, ring);
-        let records = answer.unwrap_or_default();
-        if !same || !records.is_empty() {
+        let number = port::scan(ring, track, start, rows, payloads, four(told.given()));
+        let lent = told.as_wanted() && self.rows.as_wanted() && self.payloads.as_wanted();
+        let same = number == number_of(answer) && lent && kept == ring;
+        let faults = [self.rows.first_fault(), self.payloads.first_fault()];
+        let words = asked_of(ring, track, start, number_of(answer), number, &mut told);
+        let v = verdict(answer, same, |scan| scan.records.len());
+        let written = v.things > 0;
+        self.tell(Function::Scan, v, || format!("{words}, rooms {room:?}, faults at {faults:?}"), ring);
+        if !same || written {
             let salt = self.salt();
             self.rows = Lent::room(asked::SCAN_NUMBERS + SPARE, salt);
             self.payloads = Lent::room(asked::SCAN_BYTES + SPARE, salt);
         }
-        records
+    }
+
+    fn scan_records(&mut self, ring: &[u8], track: u8, start: u64, records: usize, answer: &Answer<Scan>) {
+        self.records.lend(port::RECORD_NUMBERS * records);
+        let mut told = match answer {
+            Ok(scan) => self.told(scan.records.len(), scan.bad),
+            Err(_) => self.numbers(4),
+        };
+        let places = self.records.want().chunks_mut(port::RECORD_NUMBERS);
+        for (place, record) in places.zip(answer.iter().flat_map(|scan| &scan.records)) {
+            (place[0], place[1]) = (u64::from(record.sector), record.place);
+            for (number, eight) in place[2..].iter_mut().zip(record.payload.chunks(8)) {
+                *number = u64::from_ne_bytes(eight.try_into().expect("eight bytes"));
+            }
+        }
+        let kept = ring.to_vec();
+        let number = port::scan_records(ring, track, start, self.records.given(), four(told.given()));
+        let same = number == number_of(answer) && told.as_wanted() && self.records.as_wanted() && kept == ring;
+        let fault = self.records.first_fault();
+        let words = asked_of(ring, track, start, number_of(answer), number, &mut told);
+        let v = verdict(answer, same, |scan| scan.records.len());
+        let written = v.things > 0;
+        self.tell(Function::ScanRecords, v, || format!("{words}, room {records}, fault at {fault:?}"), ring);
+        if !same || written {
+            self.records = Lent::room(port::RECORD_NUMBERS * (asked::RECORDS + SPARE), self.salt());
+        }
     }
 
     pub fn read(&mut self, ring: &[u8], track: u8, start: u64, bytes: usize, status_bytes: usize) {
         let n = usize::from(gcr::sectors_per_track(track));
         let answer = asked::read(ring, track, start, bytes >= 256 * n && status_bytes >= n);
-        let mut found = self.numbers(1);
         let mut payloads = Lent::room(bytes, self.salt());
         let mut statuses = Lent::room(status_bytes, self.salt());
+        let mut told = match &answer {
+            Ok(read) => self.told(read.found(), read.bad),
+            Err(_) => self.numbers(4),
+        };
         if let Ok(read) = &answer {
             for (k, sector) in read.sectors.iter().enumerate() {
                 payloads.want()[256 * k..256 * k + 256].copy_from_slice(&sector.unwrap_or([0; 256]));
             }
             statuses.want()[..n].copy_from_slice(&read.statuses);
-            found.want()[0] = read.found() as u64;
             self.tally.statuses(&read.statuses);
         }
         let kept = ring.to_vec();
-        let number = port::read(ring, track, start, payloads.given(), statuses.given(), &mut found.given()[0]);
-        let lent = payloads.as_wanted() && statuses.as_wanted() && found.as_wanted();
+        let number = port::read(ring, track, start, payloads.given(), statuses.given(), four(told.given()));
+        let lent = payloads.as_wanted() && statuses.as_wanted() && told.as_wanted();
         let same = number == number_of(&answer) && lent && kept == ring;
-        let words = || {
-            let faults = [payloads.first_fault(), statuses.first_fault(), found.first_fault()];
-            let (want, ring, rooms) = (number_of(&answer), shown(ring), [bytes, status_bytes]);
-            format!("track {track}, start {start}, ring {ring}, rooms {rooms:?}: {number} for {want}, {faults:?}")
+        let words = asked_of(ring, track, start, number_of(&answer), number, &mut told);
+        let more = || {
+            let (rooms, faults) = ([bytes, status_bytes], [payloads.first_fault(), statuses.first_fault()]);
+            format!("{words}, rooms {rooms:?}, faults at {faults:?}")
         };
-        self.tell(Function::Read, verdict(&answer, same, asked::Track::found), words, ring);
+        self.tell(Function::Read, verdict(&answer, same, asked::Track::found), more, ring);
+    }
+
+    pub fn encode_block(&mut self, bytes: &[u8], room: usize) {
+        let answer = asked::encode_block(bytes, room);
+        let mut out = Lent::room(room, self.salt());
+        if let Ok(code) = &answer {
+            out.want()[..code.len()].copy_from_slice(code);
+        }
+        let kept = bytes.to_vec();
+        let number = port::encode_block(bytes, out.given());
+        let same = number == number_of(&answer) && out.as_wanted() && kept == bytes;
+        let words = || {
+            let (want, fault) = (number_of(&answer), out.first_fault());
+            format!("{}, room {room}: {number} for {want}, fault at {fault:?}", shown(bytes))
+        };
+        self.tell(Function::EncodeBlock, verdict(&answer, same, Vec::len), words, bytes);
+    }
+
+    // The index of a bad symbol is told where the refusal is 13. A code with no whole group is named in docs/DIFFERENCES.md.
+    pub fn decode_block(&mut self, code: &[u8], room: usize) {
+        let answer = asked::decode_block(code, room);
+        let mut out = Lent::room(room, self.salt());
+        let mut symbol = self.numbers(1);
+        match &answer {
+            Ok(bytes) => out.want()[..bytes.len()].copy_from_slice(bytes),
+            Err(13) => symbol.want()[0] = symbols::of_block(code).expect("a bad symbol"),
+            Err(_) => {}
+        }
+        let kept = code.to_vec();
+        let number = port::decode_block(code, out.given(), &mut symbol.given()[0]);
+        let same = number == number_of(&answer) && out.as_wanted() && symbol.as_wanted() && kept == code;
+        let (given, want) = (symbol.given()[0], symbol.want()[0]);
+        let words = || {
+            let told = format!("{number} for {}, symbol {given} for {want}", number_of(&answer));
+            format!("{}, room {room}: {told}, fault at {:?}", shown(code), out.first_fault())
+        };
+        let mut v = verdict(&answer, same, Vec::len);
+        v.alone |= code.len() < 5;
+        self.tell(Function::DecodeBlock, v, words, code);
     }
 
     pub fn sector(&mut self, ring: &[u8], track: u8, sector: u8, unique: bool) {

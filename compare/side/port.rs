@@ -1,4 +1,15 @@
-// The proved library's functions, as crates/fielbmaru_* export them: a part is a pointer and a length.
+// The proved library's functions, as crates/c_* export them: a part is a pointer and a length.
+
+// A record in memory: its sector, its data place, its payload.
+#[repr(C)]
+pub struct Record {
+    sector: u64,
+    place: u64,
+    payload: [u8; 256],
+}
+
+// As many numbers take the room of a record.
+pub const RECORD_NUMBERS: usize = std::mem::size_of::<Record>() / 8;
 
 extern "C" {
     fn fielbmaru_build_track(
@@ -22,6 +33,21 @@ extern "C" {
         payloads: *mut u8,
         payload_bytes: usize,
         count: *mut u64,
+        bad_block: *mut u64,
+        bad_symbol: *mut u64,
+        bad_bit: *mut u64,
+    ) -> u64;
+    fn fielbmaru_scan_records(
+        ring: *const u8,
+        ring_bytes: usize,
+        track: u8,
+        start_bit: u64,
+        records: *mut Record,
+        record_count: usize,
+        count: *mut u64,
+        bad_block: *mut u64,
+        bad_symbol: *mut u64,
+        bad_bit: *mut u64,
     ) -> u64;
     fn fielbmaru_decode_track(
         ring: *const u8,
@@ -33,6 +59,17 @@ extern "C" {
         statuses: *mut u8,
         status_bytes: usize,
         found: *mut u64,
+        bad_block: *mut u64,
+        bad_symbol: *mut u64,
+        bad_bit: *mut u64,
+    ) -> u64;
+    fn fielbmaru_encode_block(bytes: *const u8, byte_count: usize, out: *mut u8, out_bytes: usize) -> u64;
+    fn fielbmaru_decode_block(
+        code: *const u8,
+        code_bytes: usize,
+        out: *mut u8,
+        out_bytes: usize,
+        symbol: *mut u64,
     ) -> u64;
     fn fielbmaru_read_unique(ring: *const u8, ring_bytes: usize, track: u8, sector: u8, out: *mut u8) -> u64;
     fn fielbmaru_read_consistent(ring: *const u8, ring_bytes: usize, track: u8, sector: u8, out: *mut u8) -> u64;
@@ -68,16 +105,36 @@ pub fn build([track, id1, id2]: [u8; 3], payloads: &[u8], codes: &[u8], out: &mu
     unsafe { fielbmaru_build_track(track, p, payloads.len(), c, codes.len(), id1, id2, out.as_mut_ptr(), out.len()) }
 }
 
-pub fn scan(ring: &[u8], track: u8, start: u64, rows: &mut [u64], payloads: &mut [u8], count: &mut u64) -> u64 {
+// What a scan tells beside its rows: how many records, or sectors found, and the first bad symbol: block, symbol, ring bit.
+pub type Told<'a> = [&'a mut u64; 4];
+
+pub fn scan(ring: &[u8], track: u8, start: u64, rows: &mut [u64], payloads: &mut [u8], told: Told) -> u64 {
     let (r, p) = (rows.as_mut_ptr(), payloads.as_mut_ptr());
-    unsafe { fielbmaru_scan(ring.as_ptr(), ring.len(), track, start, r, rows.len(), p, payloads.len(), count) }
+    let (n, rn, pn) = (ring.len(), rows.len(), payloads.len());
+    let [count, block, symbol, bit] = told;
+    unsafe { fielbmaru_scan(ring.as_ptr(), n, track, start, r, rn, p, pn, count, block, symbol, bit) }
 }
 
-pub fn read(ring: &[u8], track: u8, start: u64, payloads: &mut [u8], statuses: &mut [u8], found: &mut u64) -> u64 {
+// The room is lent as numbers, a whole number of records.
+pub fn scan_records(ring: &[u8], track: u8, start: u64, room: &mut [u64], told: Told) -> u64 {
+    let (r, rn) = (room.as_mut_ptr().cast(), room.len() / RECORD_NUMBERS);
+    let [count, block, symbol, bit] = told;
+    unsafe { fielbmaru_scan_records(ring.as_ptr(), ring.len(), track, start, r, rn, count, block, symbol, bit) }
+}
+
+pub fn read(ring: &[u8], track: u8, start: u64, payloads: &mut [u8], statuses: &mut [u8], told: Told) -> u64 {
     let (p, s) = (payloads.as_mut_ptr(), statuses.as_mut_ptr());
-    unsafe {
-        fielbmaru_decode_track(ring.as_ptr(), ring.len(), track, start, p, payloads.len(), s, statuses.len(), found)
-    }
+    let (n, pn, sn) = (ring.len(), payloads.len(), statuses.len());
+    let [found, block, symbol, bit] = told;
+    unsafe { fielbmaru_decode_track(ring.as_ptr(), n, track, start, p, pn, s, sn, found, block, symbol, bit) }
+}
+
+pub fn encode_block(bytes: &[u8], out: &mut [u8]) -> u64 {
+    unsafe { fielbmaru_encode_block(bytes.as_ptr(), bytes.len(), out.as_mut_ptr(), out.len()) }
+}
+
+pub fn decode_block(code: &[u8], out: &mut [u8], symbol: &mut u64) -> u64 {
+    unsafe { fielbmaru_decode_block(code.as_ptr(), code.len(), out.as_mut_ptr(), out.len(), symbol) }
 }
 
 pub fn sector(ring: &[u8], track: u8, sector: u8, unique: bool, out: &mut [u8; 256]) -> u64 {

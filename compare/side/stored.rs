@@ -4,12 +4,22 @@ use crate::cases;
 use crate::judge::Judge;
 use crate::machine::{self, Asks};
 
-const KINDS: [&str; 8] = ["build", "scan", "sector", "orbit", "nib", "clear_d64", "clear_g64", "clear_nib"];
+const KINDS: [&str; 9] = ["block", "build", "scan", "sector", "orbit", "nib", "clear_d64", "clear_g64", "clear_nib"];
 
 // No line is printed: the judge counts.
 impl Asks for Judge {
     fn heading(&mut self, row: &str) -> String {
         self.about = row.trim_matches(|c| "#- \n".contains(c)).to_string();
+        String::new()
+    }
+
+    fn encode_block(&mut self, bytes: &[u8], room: &mut [u8]) -> String {
+        Judge::encode_block(self, bytes, room.len());
+        String::new()
+    }
+
+    fn decode_block(&mut self, code: &[u8], room: &mut [u8]) -> String {
+        Judge::decode_block(self, code, room.len());
         String::new()
     }
 

@@ -1,9 +1,10 @@
 // What was compared, function by function.
 use std::fs;
 
-pub const NAMES: [&str; 13] = [
+pub const NAMES: [&str; 16] = [
     "build_track",
     "scan",
+    "scan_records",
     "decode_track",
     "read_unique",
     "read_consistent",
@@ -15,11 +16,14 @@ pub const NAMES: [&str; 13] = [
     "clear_d64",
     "clear_g64",
     "clear_nib",
+    "encode_block",
+    "decode_block",
 ];
 
 // What each of them hands out.
-const THINGS: [&str; 13] = [
+const THINGS: [&str; 16] = [
     "tracks",
+    "records",
     "records",
     "sectors found",
     "sectors",
@@ -32,6 +36,8 @@ const THINGS: [&str; 13] = [
     "sectors cleared",
     "sectors cleared",
     "sectors cleared",
+    "bytes of code",
+    "bytes",
 ];
 
 // The folder that the first differing input of each function is written to.
@@ -41,6 +47,7 @@ const FOLDER: &str = "target/beside";
 pub enum Function {
     Build,
     Scan,
+    ScanRecords,
     Read,
     ReadUnique,
     ReadConsistent,
@@ -52,6 +59,8 @@ pub enum Function {
     ClearD64,
     ClearG64,
     ClearNib,
+    EncodeBlock,
+    DecodeBlock,
 }
 
 // What came out on one side and on the other.
@@ -72,6 +81,8 @@ pub struct Tally {
     counts: Vec<Counts>,
     // how many sectors of the tracks that were read have each status
     statuses: [u64; 10],
+    // how many scans met no bad symbol, one in a header, one in a data block
+    bad: [u64; 3],
 }
 
 // The numbers above 0 that were counted, and how often.
@@ -87,7 +98,7 @@ fn each(counts: &[u64]) -> String {
 
 impl Tally {
     pub fn new() -> Tally {
-        Tally { counts: vec![Counts::default(); NAMES.len()], statuses: [0; 10] }
+        Tally { counts: vec![Counts::default(); NAMES.len()], statuses: [0; 10], bad: [0; 3] }
     }
 
     pub fn count(&mut self, function: Function, number: u64, alone: bool, things: usize) {
@@ -102,6 +113,10 @@ impl Tally {
         for &status in told {
             self.statuses[usize::from(status)] += 1;
         }
+    }
+
+    pub fn bad_symbol(&mut self, block: u64) {
+        self.bad[block as usize] += 1;
     }
 
     // The bytes of the first differing input are kept in a file.
@@ -133,6 +148,8 @@ impl Tally {
             }
         }
         println!("statuses of the sectors of decode_track: {}", each(&self.statuses));
+        let [none, header, block] = self.bad;
+        println!("first bad symbols of scans: none {none}, in a header {header}, in a data block {block}");
         println!("in all {} inputs compared, {} differ", self.total(|c| c.compared), self.differing());
     }
 

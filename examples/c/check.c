@@ -20,46 +20,147 @@ static int all(const uint8_t *bytes, size_t n, uint8_t value)
     return 1;
 }
 
+/* Blocks of every length to a data block's: coded and decoded in just the room they need, and refused in a byte less. */
+static void blocks(void)
+{
+    static uint8_t bytes[261], code[326], back[261];
+    for (unsigned i = 0; i < sizeof bytes; i++)
+        bytes[i] = 7 * i + i / 256;
+    for (size_t n = 0; n <= 260; n++) {
+        size_t coded = FIELBMARU_CODE_BYTES(n), decoded = FIELBMARU_BLOCK_BYTES(coded);
+        uint64_t symbol = 777;
+        memset(code, 0xAA, sizeof code);
+        memset(back, 0xAA, sizeof back);
+        if (n > 0) {
+            CHECK(fielbmaru_encode_block(bytes, n, code, coded - 1) == FIELBMARU_NO_ROOM && all(code, sizeof code, 0xAA));
+            CHECK(fielbmaru_encode_block(bytes, n, code, coded) == FIELBMARU_DONE);
+            CHECK(fielbmaru_decode_block(code, coded, back, decoded - 1, &symbol) == FIELBMARU_NO_ROOM);
+        }
+        CHECK(fielbmaru_encode_block(bytes, n, code, sizeof code) == FIELBMARU_DONE);
+        CHECK(all(code + coded, sizeof code - coded, 0xAA) && all(back, sizeof back, 0xAA));
+        CHECK(fielbmaru_decode_block(code, coded, back, sizeof back, &symbol) == FIELBMARU_DONE);
+        CHECK(memcmp(back, bytes, n) == 0 && all(back + n, decoded - n, 0));
+        CHECK(all(back + decoded, sizeof back - decoded, 0xAA) && symbol == 777);
+    }
+}
+
+/* The symbols of a header and of a data block, each zeroed: the index tells which it was, and nothing is written. */
+static void bad_symbols(void)
+{
+    static const uint8_t zeros[260], expected[] = {0x52, 0x94, 0xA5, 0x29, 0x4A};
+    static uint8_t code[330], bad[330], back[260];
+    static const size_t lengths[] = {8, 260};
+    for (unsigned which = 0; which < 2; which++) {
+        size_t n = lengths[which], coded = FIELBMARU_CODE_BYTES(n);
+        uint64_t symbol = 777;
+        CHECK(fielbmaru_encode_block(zeros, n, code, sizeof code) == FIELBMARU_DONE && memcmp(code, expected, 5) == 0);
+        memset(back, 0xAA, sizeof back);
+        for (size_t k = 0; k < 2 * n; k++) {
+            memcpy(bad, code, sizeof bad);
+            for (size_t bit = 5 * k; bit < 5 * k + 5; bit++)
+                bad[bit / 8] &= ~(0x80 >> bit % 8);
+            symbol = 777;
+            CHECK(fielbmaru_decode_block(bad, coded, back, n, &symbol) == FIELBMARU_ILLEGAL_SYMBOL && symbol == k);
+            /* the first of several; and room is asked for first */
+            memset(bad + coded - 5, 0, 5);
+            CHECK(fielbmaru_decode_block(bad, coded, back, n, &symbol) == FIELBMARU_ILLEGAL_SYMBOL);
+            CHECK(symbol == (k < 2 * n - 8 ? k : 2 * n - 8));
+            symbol = 777;
+            CHECK(fielbmaru_decode_block(bad, coded, back, n - 1, &symbol) == FIELBMARU_NO_ROOM && symbol == 777);
+        }
+        CHECK(all(back, sizeof back, 0xAA));
+        /* up to four bytes after the groups are not looked at */
+        memset(code + coded, 0, 4);
+        CHECK(fielbmaru_decode_block(code, coded + 4, back, n, &symbol) == FIELBMARU_DONE && all(back, n, 0));
+        CHECK(fielbmaru_decode_block(code, coded + 4, back, n, &symbol) == FIELBMARU_DONE && symbol == 777);
+    }
+}
+
 /* The sizes of the header, for every track byte: the room that the header tells is enough, and a byte less is refused. */
+/* The three numbers of the first bad symbol, lent to a scan. */
+static uint64_t bad[3];
+
+#define BAD bad, bad + 1, bad + 2
+
+static int told(uint64_t block, uint64_t symbol, uint64_t bit)
+{
+    return bad[0] == block && bad[1] == symbol && bad[2] == bit;
+}
+
 static void sizes(void)
 {
     static uint8_t ring[7692], payloads[256 * 21], statuses[21];
     for (unsigned t = 0; t < 256; t++) {
         size_t bytes = FIELBMARU_TRACK_BYTES(t), sectors = FIELBMARU_SECTORS(t);
         uint64_t found = 99;
+        bad[0] = bad[1] = bad[2] = 99;
         memset(ring, 0xAA, sizeof ring);
         CHECK(fielbmaru_build_track(t, none, 0, none, 0, 1, 2, ring, bytes - 1) == FIELBMARU_NO_ROOM);
         CHECK(all(ring, sizeof ring, 0xAA));
         CHECK(fielbmaru_build_track(t, none, 0, none, 0, 1, 2, ring, bytes) == FIELBMARU_DONE);
         CHECK(all(ring + bytes, sizeof ring - bytes, 0xAA));
-        CHECK(fielbmaru_decode_track(ring, bytes, t, 0, payloads, 256 * sectors - 1, statuses, sectors, &found)
+        CHECK(fielbmaru_decode_track(ring, bytes, t, 0, payloads, 256 * sectors - 1, statuses, sectors, &found, BAD)
               == FIELBMARU_NO_ROOM);
-        CHECK(fielbmaru_decode_track(ring, bytes, t, 0, payloads, 256 * sectors, statuses, sectors - 1, &found)
+        CHECK(fielbmaru_decode_track(ring, bytes, t, 0, payloads, 256 * sectors, statuses, sectors - 1, &found, BAD)
               == FIELBMARU_NO_ROOM);
-        CHECK(found == 99);
-        CHECK(fielbmaru_decode_track(ring, bytes, t, t, payloads, 256 * sectors, statuses, sectors, &found) == FIELBMARU_DONE);
+        CHECK(found == 99 && told(99, 99, 99));
+        CHECK(fielbmaru_decode_track(ring, bytes, t, t, payloads, 256 * sectors, statuses, sectors, &found, BAD)
+              == FIELBMARU_DONE);
         CHECK(found == sectors && all(statuses, sectors, FIELBMARU_HANDED_OUT) && all(payloads, 256 * sectors, 0));
+        CHECK(told(FIELBMARU_NO_BAD_SYMBOL, 0, 0));
     }
 }
 
 /* Each error code is read back as its status; 3 as 2, unless no sector has a sync. */
 static void statuses(void)
 {
-    static uint8_t ring[7142], payloads[256 * 19], told[20];
+    static uint8_t ring[7142], payloads[256 * 19], list[20];
     static const uint8_t codes[] = {1, 2, 3, 4, 5, 9, 11};
     static const uint8_t expected[] = {FIELBMARU_HANDED_OUT, FIELBMARU_NO_HEADER,    FIELBMARU_NO_HEADER, FIELBMARU_NO_DATA,
                                        FIELBMARU_FALSE_DATA, FIELBMARU_FALSE_HEADER, FIELBMARU_HANDED_OUT};
     uint8_t bare[19];
     uint64_t found = 99;
-    memset(told, 0xAA, sizeof told);
+    memset(list, 0xAA, sizeof list);
     CHECK(fielbmaru_build_track(18, none, 0, codes, sizeof codes, 1, 2, ring, sizeof ring) == FIELBMARU_DONE);
-    CHECK(fielbmaru_decode_track(ring, sizeof ring, 18, 777, payloads, sizeof payloads, told, 20, &found) == FIELBMARU_DONE);
-    CHECK(found == 19 - 5 && memcmp(told, expected, sizeof expected) == 0 && all(told + 7, 12, FIELBMARU_HANDED_OUT));
-    CHECK(told[19] == 0xAA);
+    CHECK(fielbmaru_decode_track(ring, sizeof ring, 18, 777, payloads, sizeof payloads, list, 20, &found, BAD)
+          == FIELBMARU_DONE);
+    CHECK(found == 19 - 5 && memcmp(list, expected, sizeof expected) == 0 && all(list + 7, 12, FIELBMARU_HANDED_OUT));
+    CHECK(list[19] == 0xAA);
     memset(bare, 3, sizeof bare);
     CHECK(fielbmaru_build_track(18, none, 0, bare, sizeof bare, 1, 2, ring, sizeof ring) == FIELBMARU_DONE);
-    CHECK(fielbmaru_decode_track(ring, sizeof ring, 18, 777, payloads, sizeof payloads, told, 20, &found) == FIELBMARU_DONE);
-    CHECK(found == 0 && all(told, 19, FIELBMARU_NO_SYNC));
+    CHECK(fielbmaru_decode_track(ring, sizeof ring, 18, 777, payloads, sizeof payloads, list, 20, &found, BAD)
+          == FIELBMARU_DONE);
+    CHECK(found == 0 && all(list, 19, FIELBMARU_NO_SYNC));
+}
+
+/* Bits forced to zero, and the first symbol outside the table that is then met. */
+static void forced(uint8_t *ring, unsigned from, unsigned count)
+{
+    for (unsigned bit = from; bit < from + count; bit++)
+        ring[bit / 8] &= (uint8_t)~(0x80 >> bit % 8);
+}
+
+static void symbols(void)
+{
+    static uint8_t whole[7692], ring[7692], payloads[256 * 21], list[21];
+    static const struct { unsigned from, start, block, symbol, bit; } known[] = {
+        {100, 0, FIELBMARU_BAD_HEADER, 12, 100},
+        {98, 0, FIELBMARU_BAD_HEADER, 11, 95},
+        {267, 0, FIELBMARU_BAD_DATA, 7, 267},
+        {267, 60, FIELBMARU_BAD_HEADER, 7, 267},  /* the data block is met as a header */
+    };
+    uint64_t found;
+    CHECK(fielbmaru_build_track(1, none, 0, none, 0, 0, 0, whole, sizeof whole) == FIELBMARU_DONE);
+    for (unsigned i = 0; i < sizeof known / sizeof known[0]; i++) {
+        memcpy(ring, whole, sizeof ring);
+        forced(ring, known[i].from, 5);
+        CHECK(fielbmaru_decode_track(ring, sizeof ring, 1, known[i].start, payloads, sizeof payloads, list, 21, &found, BAD)
+              == FIELBMARU_DONE);
+        CHECK(told(known[i].block, known[i].symbol, known[i].bit));
+    }
+    CHECK(fielbmaru_decode_track((const uint8_t *)"\xFF\xFE", 2, 1, 0, payloads, sizeof payloads, list, 21, &found, BAD)
+          == FIELBMARU_DONE);
+    CHECK(told(FIELBMARU_BAD_HEADER, 1, 4));
 }
 
 static void sectors(void)
@@ -104,21 +205,22 @@ static void scan(void)
     static uint64_t count = 77;
     for (unsigned i = 0; i < sizeof five; i++)
         five[i] = 1 + i / 256;
+    bad[0] = bad[1] = bad[2] = 99;
     memset(rows, 0xAA, sizeof rows);
     memset(payloads, 0xAA, sizeof payloads);
     CHECK(fielbmaru_build_track(31, five, sizeof five, none, 0, 1, 2, ring, sizeof ring) == FIELBMARU_DONE);
-    CHECK(fielbmaru_scan(ring, 6250, 31, 0, rows, FIELBMARU_SCAN_ROWS - 1, payloads, FIELBMARU_SCAN_PAYLOADS, &count)
+    CHECK(fielbmaru_scan(ring, 6250, 31, 0, rows, FIELBMARU_SCAN_ROWS - 1, payloads, FIELBMARU_SCAN_PAYLOADS, &count, BAD)
           == FIELBMARU_NO_ROOM);
-    CHECK(fielbmaru_scan(ring, 6250, 31, 0, rows, FIELBMARU_SCAN_ROWS, payloads, FIELBMARU_SCAN_PAYLOADS - 1, &count)
+    CHECK(fielbmaru_scan(ring, 6250, 31, 0, rows, FIELBMARU_SCAN_ROWS, payloads, FIELBMARU_SCAN_PAYLOADS - 1, &count, BAD)
           == FIELBMARU_NO_ROOM);
-    CHECK(fielbmaru_scan(ring, 0, 31, 0, rows, FIELBMARU_SCAN_ROWS, payloads, FIELBMARU_SCAN_PAYLOADS, &count)
+    CHECK(fielbmaru_scan(ring, 0, 31, 0, rows, FIELBMARU_SCAN_ROWS, payloads, FIELBMARU_SCAN_PAYLOADS, &count, BAD)
           == FIELBMARU_RING_EMPTY);
-    CHECK(fielbmaru_scan(ring, 65536, 31, 0, rows, FIELBMARU_SCAN_ROWS, payloads, FIELBMARU_SCAN_PAYLOADS, &count)
+    CHECK(fielbmaru_scan(ring, 65536, 31, 0, rows, FIELBMARU_SCAN_ROWS, payloads, FIELBMARU_SCAN_PAYLOADS, &count, BAD)
           == FIELBMARU_RING_TOO_LONG);
-    CHECK(count == 77 && all((uint8_t *)rows, sizeof rows, 0xAA) && all(payloads, sizeof payloads, 0xAA));
-    CHECK(fielbmaru_scan(ring, 6250, 31, 8 * 200, rows, FIELBMARU_SCAN_ROWS, payloads, FIELBMARU_SCAN_PAYLOADS, &count)
+    CHECK(count == 77 && told(99, 99, 99) && all((uint8_t *)rows, sizeof rows, 0xAA) && all(payloads, sizeof payloads, 0xAA));
+    CHECK(fielbmaru_scan(ring, 6250, 31, 8 * 200, rows, FIELBMARU_SCAN_ROWS, payloads, FIELBMARU_SCAN_PAYLOADS, &count, BAD)
           == FIELBMARU_DONE);
-    CHECK(count == 17);
+    CHECK(count == 17 && told(FIELBMARU_NO_BAD_SYMBOL, 0, 0));
     for (unsigned i = 0; i < 17; i++) {
         unsigned s = (i + 1) % 17;  /* from byte 200 on the first header met is that of sector 1 */
         unsigned slot = s * 367 + (s < 11 ? s : 11) + (i == 16 ? 6250 : 0);
@@ -244,8 +346,11 @@ static void nib(void)
 
 int main(void)
 {
+    blocks();
+    bad_symbols();
     sizes();
     statuses();
+    symbols();
     sectors();
     scan();
     build_disk();

@@ -11,12 +11,13 @@ static uint8_t payloads[256 * SECTORS];
 static uint8_t read_back[256 * SECTORS];
 static uint8_t statuses[SECTORS];
 
-/* Reads the whole track from a start bit on, and says which sectors are as they were built, and which are missing, with their status. */
+/* Reads the whole track from a start bit on, and says which sectors are as they were built, which are missing, with their
+   status, and where the first bad symbol is. */
 static void show(const char *what, uint64_t start_bit)
 {
-    uint64_t found = 0;
+    uint64_t found = 0, block = 0, symbol = 0, bit = 0;
     uint64_t refusal = fielbmaru_decode_track(ring, sizeof ring, TRACK, start_bit, read_back, sizeof read_back, statuses,
-                                              sizeof statuses, &found);
+                                              sizeof statuses, &found, &block, &symbol, &bit);
     if (refusal != FIELBMARU_DONE) {
         printf("%s: refused %llu\n", what, (unsigned long long)refusal);
         return;
@@ -29,6 +30,9 @@ static void show(const char *what, uint64_t start_bit)
     for (unsigned s = 0; s < SECTORS; s++)
         if (statuses[s] != FIELBMARU_HANDED_OUT)
             printf(" %u (%u)", s, (unsigned)statuses[s]);
+    if (block != FIELBMARU_NO_BAD_SYMBOL)
+        printf("; first bad symbol: %llu of a %s, at bit %llu", (unsigned long long)symbol,
+               block == FIELBMARU_BAD_HEADER ? "header" : "data block", (unsigned long long)bit);
     printf("\n");
 }
 

@@ -39,12 +39,12 @@ static int as_lent(size_t from)
 /* Both scans of a ring: the same answer, the same count, and record by record the same. */
 static uint64_t both(const uint8_t *ring, size_t length, uint8_t track, uint64_t start)
 {
-    uint64_t flat = 77, count = 77;
+    uint64_t flat = 77, count = 77, one[3] = {77, 77, 77}, two[3] = {78, 78, 78};
     lend();
-    CHECK(fielbmaru_scan(ring, length, track, start, rows, FIELBMARU_SCAN_ROWS, payloads, FIELBMARU_SCAN_PAYLOADS, &flat)
-          == FIELBMARU_DONE);
-    CHECK(fielbmaru_scan_records(ring, length, track, start, records, LENT, &count) == FIELBMARU_DONE);
-    CHECK(count == flat && as_lent(count));
+    CHECK(fielbmaru_scan(ring, length, track, start, rows, FIELBMARU_SCAN_ROWS, payloads, FIELBMARU_SCAN_PAYLOADS, &flat, one, one + 1,
+                         one + 2) == FIELBMARU_DONE);
+    CHECK(fielbmaru_scan_records(ring, length, track, start, records, LENT, &count, two, two + 1, two + 2) == FIELBMARU_DONE);
+    CHECK(count == flat && as_lent(count) && memcmp(one, two, sizeof one) == 0);
     for (uint64_t i = 0; i < count; i++)
         CHECK(records[i].sector == rows[2 * i] && records[i].place == rows[2 * i + 1]
               && memcmp(records[i].payload, payloads + 256 * i, 256) == 0);
@@ -73,15 +73,18 @@ static uint64_t tracks(void)
 static void refusals(void)
 {
     static uint8_t ring[65536];
-    uint64_t count = 77;
+    uint64_t count = 77, bad[3] = {77, 77, 77};
     lend();
-    CHECK(fielbmaru_scan_records(ring, 100, 18, 0, records, FIELBMARU_SCAN_RECORDS - 1, &count) == FIELBMARU_NO_ROOM);
-    CHECK(fielbmaru_scan_records(ring, 0, 18, 0, records, FIELBMARU_SCAN_RECORDS - 1, &count) == FIELBMARU_NO_ROOM);
-    CHECK(fielbmaru_scan_records(ring, 0, 18, 0, records, LENT, &count) == FIELBMARU_RING_EMPTY);
-    CHECK(fielbmaru_scan_records(ring, 65536, 18, 0, records, LENT, &count) == FIELBMARU_RING_TOO_LONG);
-    CHECK(count == 77 && as_lent(0));
-    CHECK(fielbmaru_scan_records(ring, 65535, 18, 0, records, FIELBMARU_SCAN_RECORDS, &count) == FIELBMARU_DONE);
-    CHECK(count == 0 && as_lent(0));
+    CHECK(fielbmaru_scan_records(ring, 100, 18, 0, records, FIELBMARU_SCAN_RECORDS - 1, &count, bad, bad + 1, bad + 2)
+          == FIELBMARU_NO_ROOM);
+    CHECK(fielbmaru_scan_records(ring, 0, 18, 0, records, FIELBMARU_SCAN_RECORDS - 1, &count, bad, bad + 1, bad + 2)
+          == FIELBMARU_NO_ROOM);
+    CHECK(fielbmaru_scan_records(ring, 0, 18, 0, records, LENT, &count, bad, bad + 1, bad + 2) == FIELBMARU_RING_EMPTY);
+    CHECK(fielbmaru_scan_records(ring, 65536, 18, 0, records, LENT, &count, bad, bad + 1, bad + 2) == FIELBMARU_RING_TOO_LONG);
+    CHECK(count == 77 && bad[0] == 77 && bad[1] == 77 && bad[2] == 77 && as_lent(0));
+    CHECK(fielbmaru_scan_records(ring, 65535, 18, 0, records, FIELBMARU_SCAN_RECORDS, &count, bad, bad + 1, bad + 2)
+          == FIELBMARU_DONE);
+    CHECK(count == 0 && bad[0] == FIELBMARU_NO_BAD_SYMBOL && bad[1] == 0 && bad[2] == 0 && as_lent(0));
 }
 
 int main(void)

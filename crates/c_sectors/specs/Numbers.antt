@@ -16,5 +16,5 @@ bytesAfter out found = pick (found .ok) (found .bytes) out
 
 -- a sector replaced
 abbrev pub replacedNumber : Replaced → ℕ
-replacedNumber SectorWritten = 0
+replacedNumber (SectorWritten bad) = 0
 replacedNumber (NotReplaced number) = number

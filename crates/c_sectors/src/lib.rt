@@ -28,10 +28,11 @@ pub extern "C" fn fielbmaru_read_unique(
     sector: u8,
     out: &mut [u8; 256],
 ) -> u64
-    ensures { λ r. ⌜ (r ≡ sectorNumber (readUnique (now (ring .entry)) track sector))
-        × (now (out .exit) ≡ bytesAfter (now (out .entry)) (readUnique (now (ring .entry)) track sector)) ⌝ }
+    ensures { λ r. ⌜ (r ≡ sectorNumber (readUnique (now (ring .entry)) track sector .sector))
+        × (now (out .exit) ≡ bytesAfter (now (out .entry)) (readUnique (now (ring .entry)) track sector .sector)) ⌝ }
 {
-    hand_out(sector::decode_sector_unique(ring, track, sector), out)
+    let read = sector::decode_sector_unique(ring, track, sector);
+    hand_out(read.sector, out)
 }
 
 // A sector by the consistent rule.
@@ -42,17 +43,18 @@ pub extern "C" fn fielbmaru_read_consistent(
     sector: u8,
     out: &mut [u8; 256],
 ) -> u64
-    ensures { λ r. ⌜ (r ≡ sectorNumber (readConsistent (now (ring .entry)) track sector))
-        × (now (out .exit) ≡ bytesAfter (now (out .entry)) (readConsistent (now (ring .entry)) track sector)) ⌝ }
+    ensures { λ r. ⌜ (r ≡ sectorNumber (readConsistent (now (ring .entry)) track sector .sector))
+        × (now (out .exit) ≡ bytesAfter (now (out .entry)) (readConsistent (now (ring .entry)) track sector .sector)) ⌝ }
 {
-    hand_out(sector::decode_sector_consistent(ring, track, sector), out)
+    let read = sector::decode_sector_consistent(ring, track, sector);
+    hand_out(read.sector, out)
 }
 
 fn number_of_replaced(answer: Replaced) -> u64
     ensures { λ r. ⌜ r ≡ replacedNumber answer ⌝ }
 {
     match answer {
-        Replaced::Written => 0,
+        Replaced::Written(_) => 0,
         Replaced::Refused(number) => number as u64,
     }
 }

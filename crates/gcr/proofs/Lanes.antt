@@ -6,8 +6,7 @@
 use mathlib.Core.Path.{_≡_, refl, sym, ap, ap₂, _∙_, subst}
 use mathlib.Core.Bool.{Bool, true, false, _&&_}
 use mathlib.Core.Logic.{_≢_}
-use mathlib.Core.List.{[], _∷_, map}
-use mathlib.Core.Option.{none, some}
+use mathlib.Core.List.{[], _∷_}
 use Prim.Native.Nat.{ℕ, zero, suc, _+_, _*_, _/_, _%_, _^_, _<_}
 use native.Mathlib.Nat.{mod-lt, div-eq-of-lt}
 use native.Mathlib.Omega.{arith}
@@ -17,10 +16,10 @@ use lib.Pow.{pow-add, pow-pos, shr-shr}
 use Rattle.base.specs.Choice.{pick}
 use Rattle.base.specs.Digits.{digits}
 use Rattle.base.proofs.Tests.{from-true, lt-of, imp, imp→, allBelow, allBelow→}
-use Rattle.gcr.specs.Symbols.{nibbleOf, isLegal, bytesOf, fromSymbols}
+use Rattle.gcr.specs.Symbols.{nibbleOf, isLegal, firstIllegal, fromSymbols}
 use Rattle.gcr.specs.Answers.{answer4}
 use Rattle.gcr.specs.Inside.{lanes, bit, flip, illegalBit, nibbleBits}
-use Rattle.gcr.proofs.Codes.{legal, only, packed, forget-is, answered, told-answer}
+use Rattle.gcr.proofs.Codes.{legal, packed, accepted, refused, told-bytes, told-index}
 
 abbrev ones : ℕ → ℕ
 ones n = lanes (λ d. 1) n 0
@@ -337,20 +336,17 @@ module _ (v : ℕ) where
         (lt-of _ 16 (legal-at j (omega arith)))
 
 -- ---- the ways out of `decode_bits`
-pub decode-refused : (v : ℕ) → lanes illegalBit 8 v ≢ 0 → answered none ≡ answer4 (fromSymbols (digits 32 8 v))
-decode-refused v n =
-    told-answer (fromSymbols (digits 32 8 v)) none
-    (forget-is (digits 32 8 v) ∙ ap (λ (b : Bool). only b (bytesOf (map nibbleOf (digits 32 8 v)))) (lanes-refuse v n))
+pub decode-refused : (v k : ℕ) → lanes illegalBit 8 v ≢ 0 → k ≡ firstIllegal (digits 32 8 v)
+    → refused k ≡ answer4 (fromSymbols (digits 32 8 v))
+decode-refused v k n e = told-index (digits 32 8 v) k (lanes-refuse v n) e
 
 pub decode-accepted : (v n w x y z : ℕ) → lanes illegalBit 8 v ≡ 0 → n ≡ lanes nibbleBits 8 v
     → w ≡ bitOr (n / 2 ^ 35 % 32 * 16 % 256) (n / 2 ^ 30 % 32) → x ≡ bitOr (n / 2 ^ 25 % 32 * 16 % 256) (n / 2 ^ 20 % 32)
     → y ≡ bitOr (n / 2 ^ 15 % 32 * 16 % 256) (n / 2 ^ 10 % 32) → z ≡ bitOr (n / 2 ^ 5 % 32 * 16 % 256) (n / 2 ^ 0 % 32)
-    → answered (some (w ∷ x ∷ y ∷ z ∷ [])) ≡ answer4 (fromSymbols (digits 32 8 v))
+    → accepted (w ∷ x ∷ y ∷ z ∷ []) ≡ answer4 (fromSymbols (digits 32 8 v))
 decode-accepted v n w x y z e m p q r s =
     let w′ = p ∙ byte-is v e n 6 m (lit< tt) in
     let x′ = q ∙ byte-is v e n 4 m (lit< tt) in
     let y′ = r ∙ byte-is v e n 2 m (lit< tt) in
     let z′ = s ∙ byte-is v e n 0 m (lit< tt) in
-    told-answer (fromSymbols (digits 32 8 v)) (some (w ∷ x ∷ y ∷ z ∷ []))
-    (forget-is (digits 32 8 v) ∙ ap (λ (b : Bool). only b (bytesOf (map nibbleOf (digits 32 8 v)))) (lanes-accept v e)
-    ∙ sym (λ i. some (w′ i ∷ x′ i ∷ y′ i ∷ z′ i ∷ [])))
+    told-bytes (digits 32 8 v) (w ∷ x ∷ y ∷ z ∷ []) (lanes-accept v e) (λ i. w′ i ∷ x′ i ∷ y′ i ∷ z′ i ∷ [])

@@ -1,11 +1,18 @@
 -- What the helpers inside this crate answer.
 use Prim.Native.Nat.{ℕ, zero, suc, _+_, _*_, _/_, _%_, _^_}
 use lib.Bits.{bitAnd, bitOr, bitXor}
+use lib.Dec.{ltb}
+use Rattle.base.specs.Choice.{pick}
 
 -- n fields of five bits, the lowest last: what f makes of each of the n lowest fields of v
 unfoldable pub lanes : (ℕ → ℕ) → ℕ → ℕ → ℕ
 lanes f zero v = 0
 lanes f (suc n) v = lanes f n (v / 32) * 32 + f (v % 32)
+
+-- the index of the first of n fields of five bits, from the highest on, that is not zero; n where all are
+unfoldable pub firstLane : ℕ → ℕ → ℕ
+firstLane zero v = 0
+firstLane (suc n) v = pick (ltb v (32 ^ n)) (suc (firstLane n v)) 0
 
 -- bit k of a code, and the other value of a bit
 abbrev pub bit : ℕ → ℕ → ℕ

@@ -1,22 +1,21 @@
 -- Coding and decoding a block, as the loops do it: group after group.
 --     encoded-whole, encoded-rest    what the stores of a block leave
---     readable-next, readable-stop   one group more that decodes, and one that does not
+--     readable-next, first-stop      one group more that decodes, and one that does not
 --     bytes-next                     the bytes of one group more
-use mathlib.Core.Path.{_≡_, refl, sym, ap, ap₂, _∙_, subst}
-use mathlib.Core.Bool.{Bool, true, false}
+use mathlib.Core.Path.{_≡_, refl, sym, ap, ap₂, _∙_}
+use mathlib.Core.Bool.{true, false}
 use mathlib.Core.List.{List, [], _∷_, _++_}
 use Prim.Native.Nat.{ℕ, zero, suc, _+_, _*_, _-_, _≤_, _<_}
-use native.Mathlib.Numerals.{add-one}
 use native.Mathlib.Omega.{arith}
 use lib.ListN.{length, getD, take, drop, replicate, length-append, length-drop}
 use lib.Seq.{sets, take-append-le, drop-append-le}
 use Rattle.base.specs.Bits.{bitIn}
 use Rattle.base.specs.Lists.{tab}
-use Rattle.base.specs.Refusals.{noRoom, illegalSymbol}
+use Rattle.base.specs.Refusals.{noRoom}
 use Rattle.base.proofs.InRow.{window, sets-more, sets-front}
 use Rattle.base.proofs.Lists.{length-tab}
 use Rattle.base.proofs.Tests.{ltb-yes, ltb-no}
-use Rattle.gcr.specs.Symbols.{Decoded, Bytes, IllegalAt, fromSymbols}
+use Rattle.gcr.specs.Symbols.{Decoded, Bytes, IllegalAt}
 use Rattle.gcr.specs.Groups.{encodeGroup, decodeGroup, encode}
 use Rattle.gcr.specs.Places.{decodeAt}
 use Rattle.gcr.specs.Answers.{answer4}
@@ -25,9 +24,13 @@ use Rattle.gcr.proofs.DecodeLaws.{decode-legal, decode-bytes, decode-more, deco
 use Rattle.gcr.proofs.AtPlaces.{group-in}
 use Rattle.gcr_blocks.specs.Blocks.{groupsFor, codeLength, encodeBlock, bytesLength, decodeBlock}
 use Rattle.gcr_blocks.specs.Answers.{codedNumber, encodeRefusal, encoded, encodedOut}
-use Rattle.gcr_blocks.specs.Answers.{decodeRefusal, decoded, decodedOut, isReadable, bytesIn}
+use Rattle.gcr_blocks.specs.Answers.{decodeRefusal, decodedNumber, decoded, decodedOut, isReadable, bytesIn}
+use Rattle.gcr_blocks.specs.Inside.{firstIn}
 use Rattle.gcr_blocks.specs.declared.Coded.{Coded}
 use Rattle.gcr_blocks.specs.declared.Coded.the-variants.{Written, Refused}
+use Rattle.gcr_blocks.specs.declared.BlockDecoded.{BlockDecoded}
+use Rattle.gcr_blocks.specs.declared.BlockDecoded.the-variants.{Written as BytesWritten, Refused as NotDecoded, Illegal}
+use Rattle.gcr_blocks.specs.declared.FirstIllegal.the-variants.{At, Nowhere}
 use Rattle.gcr_blocks.proofs.Runs.{encode-more}
 
 -- what stands behind the groups does not matter
@@ -122,17 +125,37 @@ module _ (code : List ℕ) (i : ℕ) (room : 5 * i + 5 ≤ length code) (bytes :
       go (Bytes xs) e a (IllegalAt k) f b = absurd (let z : _≡_ {A = ℕ} 0 1 = cc in omega arith)
       go (IllegalAt k) e a g f b = absurd (let z : _≡_ {A = ℕ} 0 1 = cc in omega arith)
 
-  pub readable-stop : (n : ℕ) → i < n → isReadable (decodeAt x 0 (4 * i)) ≡ true → answer4 group .ok ≡ false → isReadable
-      (decodeAt x 0 (4 * n)) ≡ false
+  stopped : (n k : ℕ) (xs : List ℕ) → i < n → decodeAt x 0 (4 * i) ≡ Bytes xs → group ≡ IllegalAt k
+      → decodeAt x 0 (4 * n) ≡ IllegalAt (8 * i + k)
+  stopped n k xs l e f =
+      let m : 4 * n ≡ 4 * i + 4 + (4 * n - 4 * i - 4) = omega arith in
+      let j : 2 * (4 * i) + k ≡ 8 * i + k = omega arith in
+      ap (decodeAt x 0) m ∙ decode-stop x 0 (4 * i) xs e 4 k (4 * n - 4 * i - 4) (here (IllegalAt k) f) ∙ ap IllegalAt j
+
+  pub first-stop : (n : ℕ) → i < n → isReadable (decodeAt x 0 (4 * i)) ≡ true → answer4 group .ok ≡ false
+      → firstIn (decodeAt x 0 (4 * n)) ≡ At (8 * i + answer4 group .symbol)
   unfolding answer4
-  readable-stop n l a b = go (decodeAt x 0 (4 * i)) refl a group refl b
+  first-stop n l a b = go (decodeAt x 0 (4 * i)) refl a group refl b
     where
-      go : (d : Decoded) → decodeAt x 0 (4 * i) ≡ d → isReadable d ≡ true → (g : Decoded) → group ≡ g → answer4 g .ok ≡ false →
-          isReadable (decodeAt x 0 (4 * n)) ≡ false
+      go : (d : Decoded) → decodeAt x 0 (4 * i) ≡ d → isReadable d ≡ true → (g : Decoded) → group ≡ g → answer4 g .ok ≡ false
+          → firstIn (decodeAt x 0 (4 * n)) ≡ At (8 * i + answer4 group .symbol)
       go (Bytes xs) e a (IllegalAt k) f b =
-          ap isReadable (ap (decodeAt x 0) (omega arith) ∙ decode-stop x 0 (4 * i) xs e 4 k (4 * n - 4 * i - 4) (here (IllegalAt k) f))
+          ap firstIn (stopped n k xs l e f) ∙ ap (λ (g : Decoded). At (8 * i + answer4 g .symbol)) (sym f)
       go (Bytes xs) e a (Bytes ys) f b = absurd (let z : _≡_ {A = ℕ} 0 1 = cc in omega arith)
       go (IllegalAt k) e a g f b = absurd (let z : _≡_ {A = ℕ} 0 1 = cc in omega arith)
+
+-- what the search for a symbol outside the table tells
+pub first-none : (d : Decoded) → isReadable d ≡ true → firstIn d ≡ Nowhere
+first-none (Bytes b) e = refl
+first-none (IllegalAt k) e = absurd (let z : _≡_ {A = ℕ} 0 1 = cc in omega arith)
+
+none-first : (d : Decoded) → Nowhere ≡ firstIn d → isReadable d ≡ true
+none-first (Bytes b) e = refl
+none-first (IllegalAt k) e = absurd (let z : _≡_ {A = ℕ} 0 1 = cc in omega arith)
+
+first-at : (d : Decoded) (k : ℕ) → At k ≡ firstIn d → d ≡ IllegalAt k
+first-at (Bytes b) k e = absurd (let z : _≡_ {A = ℕ} 0 1 = cc in omega arith)
+first-at (IllegalAt j) k e = let q : j ≡ k = cc in ap IllegalAt q
 
 -- the bytes of one group more; all of a readable run's first groups are readable
 prefix : (x : ℕ → ℕ) (m n : ℕ) → m ≤ n → isReadable (decodeAt x 0 n) ≡ true → isReadable (decodeAt x 0 m) ≡ true
@@ -167,8 +190,7 @@ module _ (code out₀ out : List ℕ) (i n : ℕ) (l : i < n) (room : 5 * i + 5 
       go (Bytes xs) e a′ (Bytes ys) f =
           rw (h, e, f, more code i room bytes xs ys e f) (front-more xs ys out₀ (4 * i) (length-bytes (bitIn code) (4 * i) xs e))
       go (Bytes xs) e a′ (IllegalAt k) f =
-          absurd (let z : isReadable (decodeAt (bitIn code) 0 (4 * n)) ≡ false = readable-stop code i room bytes n l (ap isReadable e)
-          (ap (λ (g : Decoded). answer4 g .ok) f) in
+          absurd (let z : isReadable (decodeAt (bitIn code) 0 (4 * n)) ≡ false = ap isReadable (stopped code i room bytes n k xs l e f) in
           let w : _≡_ {A = ℕ} 0 1 = cc in omega arith)
       go (IllegalAt k) e a′ g f = absurd (let z : _≡_ {A = ℕ} 0 1 = cc in omega arith)
 
@@ -187,24 +209,32 @@ module _ (bytes out : List ℕ) where
   encode-done last n f h g = let e = ltb-no (length out) (codeLength bytes) (omega arith) in (rw (e, ← f), rw (e, ← f) g, rw e)
 
 module _ (code out : List ℕ) where
-  abbrev Decodes : Coded → List ℕ → Type 0
-  Decodes r last = (r ≡ decoded code out) × (last ≡ decodedOut code out) × (codedNumber r ≡ decodeRefusal code out)
+  abbrev Decodes : BlockDecoded → List ℕ → Type 0
+  Decodes r last = (r ≡ decoded code out) × (last ≡ decodedOut code out) × (decodedNumber r ≡ decodeRefusal code out)
 
   abbrev there : Decoded
   there = decodeAt (bitIn code) 0 (bytesLength code)
 
-  pub decode-refused : length out < bytesLength code → Decodes (Refused noRoom) out
+  pub nowhere : Nowhere ≡ firstIn there → isReadable there ≡ true
+  nowhere = none-first there
+
+  pub decode-refused : length out < bytesLength code → Decodes (NotDecoded noRoom) out
   unfolding decoded decodedOut
   decode-refused h = let e = ltb-yes (length out) (bytesLength code) h in (rw e, rw e, rw e)
 
   module _ (h : bytesLength code ≤ length out) where
-    pub decode-wrong : isReadable there ≡ false → Decodes (Refused illegalSymbol) out
+    pub decode-wrong : (k : ℕ) → At k ≡ firstIn there → Decodes (Illegal k) out
     unfolding decoded decodedOut decodeBlock
-    decode-wrong f = let e = ltb-no (length out) (bytesLength code) h in (rw (e, f), rw (e, f), rw (e, f))
-
-    pub decode-done : (last : List ℕ) → isReadable there ≡ true → last ≡ sets out 0 (bytesIn there) → Decodes (Written (bytesLength code)) last
-    unfolding decoded decodedOut decodeBlock
-    decode-done last f l =
+    decode-wrong k f =
         let e = ltb-no (length out) (bytesLength code) h in
+        let d = first-at there k f in
+        (rw (e, d), rw (e, d), rw (e, d))
+
+    pub decode-done : (last : List ℕ) → Nowhere ≡ firstIn there → last ≡ sets out 0 (bytesIn there)
+        → Decodes (BytesWritten (bytesLength code)) last
+    unfolding decoded decodedOut decodeBlock
+    decode-done last n l =
+        let e = ltb-no (length out) (bytesLength code) h in
+        let f = nowhere n in
         let m = length-readable (bitIn code) (bytesLength code) f in
         (rw (e, f), rw (e, f) (l ∙ sets-front (bytesIn there) out (bytesLength code) m h), rw (e, f))

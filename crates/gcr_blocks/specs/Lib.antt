@@ -1,2 +1,4 @@
 pub mod Blocks
 pub mod Answers
+pub mod Before
+pub mod Inside

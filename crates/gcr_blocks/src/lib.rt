@@ -6,7 +6,8 @@ ghost use lib.ListN.{length, take, drop, replicate};
 ghost use lib.Seq.{sets};
 ghost use Rattle.gcr.specs.Groups.{encodeGroup, encode, decodeGroup};
 ghost use Rattle.gcr_blocks.specs.Answers.{codedNumber, encodeRefusal, encoded, encodedOut};
-ghost use Rattle.gcr_blocks.specs.Answers.{decodeRefusal, decoded, decodedOut, isReadable, bytesIn};
+ghost use Rattle.gcr_blocks.specs.Answers.{decodeRefusal, decodedNumber, decoded, decodedOut, isReadable, bytesIn};
+ghost use Rattle.gcr_blocks.specs.Inside.{firstIn};
 ghost use mathlib.Core.Bool.{true};
 ghost use Rattle.base.specs.Bits.{bitIn};
 ghost use Rattle.gcr.specs.Places.{decodeAt};
@@ -17,6 +18,13 @@ use gcr::Decoded4;
 pub enum Coded {
     Written(usize),
     Refused(u8),
+}
+
+// What decoding a block answers: as coding; refusal 13 tells the index of the first symbol outside the table, among all of the block's.
+pub enum BlockDecoded {
+    Written(usize),
+    Refused(u8),
+    Illegal(usize),
 }
 
 // The code of four bytes, stored from `at` on.
@@ -49,14 +57,6 @@ pub fn encode_groups(out: &mut [u8], at: usize, bytes: &[u8], n: usize)
         );
         i += 1;
     }
-}
-
-// The code of a block of 260 bytes, stored from `at` on.
-pub fn encode_block(out: &mut [u8], at: usize, block: &[u8; 260])
-    requires { ⌜ at + 325 ≤ length (now out) ⌝ }
-    ensures { λ r. ⌜ now (out .exit) ≡ sets (now (out .entry)) at (encode 65 (now (block .entry))) ⌝ }
-{
-    encode_groups(out, at, block, 65);
 }
 
 // The code of a block of any length; a last group of fewer than four bytes is filled up with zeros.
@@ -114,20 +114,26 @@ fn decode_at(code: &[u8], at: usize) -> Decoded4
     gcr::decode_group(&g)
 }
 
-// Are all symbols of the first `n` groups in the table?
-fn legal_groups(code: &[u8], n: usize) -> bool
+// Where the first symbol outside the table is.
+enum FirstIllegal {
+    At(usize),
+    Nowhere,
+}
+
+// The first symbol outside the table, of the first `n` groups.
+fn first_illegal(code: &[u8], n: usize) -> FirstIllegal
     requires { ⌜ 5 * n ≤ length (now code) ⌝ }
-    ensures { λ r. ⌜ r ≡ isReadable (decodeAt (bitIn (now (code .entry))) 0 (4 * n)) ⌝ }
+    ensures { λ r. ⌜ r ≡ firstIn (decodeAt (bitIn (now (code .entry))) 0 (4 * n)) ⌝ }
 {
     let mut i: usize = 0;
     while i < n {
         let g = decode_at(code, 5 * i);
         if !g.ok {
-            return false;
+            return FirstIllegal::At(8 * i + g.symbol as usize);
         }
         i += 1;
     }
-    true
+    FirstIllegal::Nowhere
 }
 
 // Four bytes, stored from `at` on, one by one: the inner loop of every scan.
@@ -157,20 +163,22 @@ fn decode_groups(code: &[u8], out: &mut [u8], n: usize)
 }
 
 // What a code of whole groups stands for. A symbol outside the table refuses, and then nothing is written.
-pub fn decode_gcr_block(code: &[u8], out: &mut [u8]) -> Coded
+pub fn decode_gcr_block(code: &[u8], out: &mut [u8]) -> BlockDecoded
     ensures { λ r. ⌜
         (r ≡ decoded (now (code .entry)) (now (out .entry)))
         × (now (out .exit) ≡ decodedOut (now (code .entry)) (now (out .entry)))
-        × (codedNumber r ≡ decodeRefusal (now (code .entry)) (now (out .entry)))
+        × (decodedNumber r ≡ decodeRefusal (now (code .entry)) (now (out .entry)))
         ⌝ }
 {
     let n = code.len() / 5;
     if out.len() / 4 < n {
-        return Coded::Refused(base::NO_ROOM);
+        return BlockDecoded::Refused(base::NO_ROOM);
     }
-    if !legal_groups(code, n) {
-        return Coded::Refused(base::ILLEGAL_SYMBOL);
+    let first = first_illegal(code, n);
+    match first {
+        FirstIllegal::At(k) => return BlockDecoded::Illegal(k),
+        FirstIllegal::Nowhere => {}
     }
     decode_groups(code, out, n);
-    Coded::Written(4 * n)
+    BlockDecoded::Written(4 * n)
 }

@@ -1,2 +1,3 @@
 pub mod StatusLaws
+pub mod SymbolLaws
 pub mod Small

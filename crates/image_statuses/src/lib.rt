@@ -1,4 +1,4 @@
-// Which sectors of a track read, and why the others do not, in an image of any kind.
+// Which sectors of a track read, why the others do not, and its first bad symbol, in an image of any kind.
 ghost use mathlib.Core.Path.{_≡_};
 ghost use Prim.Native.Nat.{_<_, _≤_};
 ghost use lib.ListN.{length, replicate};
@@ -7,7 +7,9 @@ ghost use Rattle.geometry.specs.Zones.{sectorsOf};
 ghost use Rattle.image_kind.specs.Kinds.{kindOf};
 ghost use Rattle.image_statuses.specs.Statuses.{d64Status, d64Statuses, halfOf, g64Ring};
 ghost use Rattle.image_statuses.specs.Statuses.{statusesBy, statusesOf, statusesNumber, statusesAfter, isShown};
+ghost use Rattle.image_statuses.specs.Symbols.{symbolBy, symbolOf};
 use image_kind::Kind;
+use scan::BadSymbol;
 
 // The highest track that an image can have.
 pub const HIGHEST_TRACK: u8 = 42;
@@ -126,4 +128,30 @@ pub fn is_shown(track: u8, statuses: &[u8]) -> bool
         return true;
     }
     base::any_nonzero(statuses)
+}
+
+fn symbol_by_kind(image: &[u8], track: u8) -> BadSymbol
+    requires { ⌜ (0 < track) × (track ≤ 42) ⌝ }
+    ensures { λ r. ⌜ r ≡ symbolBy (now (image .entry)) track (kindOf (now (image .entry))) ⌝ }
+{
+    let kind = image_kind::image_kind(image);
+    match kind {
+        Kind::D64(_) => BadSymbol::NoneMet,
+        Kind::G64 => scan_symbols::first_bad(g64_ring(image, half_of(track)), track, 0),
+        Kind::Nib => scan_symbols::first_bad(nib_slots::nib_ring(image, half_of(track)), track, 0),
+        Kind::Unknown => BadSymbol::NoneMet,
+    }
+}
+
+// The first bad symbol of a track's ring, read from bit 0 on; none where the image has no such ring.
+pub fn track_symbol(image: &[u8], track: u8) -> BadSymbol
+    ensures { λ r. ⌜ r ≡ symbolOf (now (image .entry)) track ⌝ }
+{
+    if track == 0 {
+        return BadSymbol::NoneMet;
+    }
+    if HIGHEST_TRACK < track {
+        return BadSymbol::NoneMet;
+    }
+    symbol_by_kind(image, track)
 }

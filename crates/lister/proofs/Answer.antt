@@ -1,16 +1,16 @@
 -- What is printed for an input, and what `list_ring` answers, test by test.
 use mathlib.Core.Path.{_≡_, refl, sym, _∙_, subst}
 use mathlib.Core.Logic.{_≢_}
-use mathlib.Core.Bool.{Bool, true, false, not, _&&_}
+use mathlib.Core.Bool.{Bool, true, false, not}
 use mathlib.Core.List.{List, [], _∷_}
 use Prim.Native.Nat.{ℕ, zero, suc, _-_, _≤_, _<_}
 use native.Mathlib.Omega.{arith}
-use lib.Dec.{eqb, leb, ltb, leb→le}
-use lib.ListN.{length, take, drop, length-append, length-drop}
-use lib.Seq.{take-all}
+use lib.Dec.{eqb, ltb}
+use lib.ListN.{length, length-append}
 use Rattle.base.specs.Lists.{joined, countOf}
 use Rattle.base.specs.Refusals.{ringEmpty, ringTooLong, wrongImage, noRoom, _when_, refusal, unless}
-use Rattle.base.proofs.Tests.{eqb-yes, eqb-no, ltb-yes, ltb-no, from-true}
+use Rattle.base.proofs.Tests.{ltb-yes, ltb-no}
+use Rattle.base.proofs.Refusing.{unless-some}
 use Rattle.base.proofs.InRow.{sets-front}
 use Rattle.base.proofs.Stores.{count-le}
 use Rattle.base.proofs.Rows.{joined-short}
@@ -26,39 +26,16 @@ use Rattle.lister.proofs.Putting.{head-long, refused-long, line-short}
 use Rattle.lister.specs.declared.Listed.{Listed}
 use Rattle.lister.specs.declared.Listed.the-variants.{Written, Refused}
 
--- ---- the listing, by the tests of the input
-module _ (input : List ℕ) (envelope : Bool) (e : envelope ≡ isEnvelope input) where
-  pub wrong-listing : envelope ≡ false → refusalLine wrongImage ≡ listing input
+-- ---- the listing, by the number of the input
+module _ (input : List ℕ) where
+  pub refused-listing : (number : ℕ) → number ≡ inputRefusal input → number ≢ 0 → refusalLine number ≡ listing input
   unfolding listing
-  wrong-listing t = rw (← e, t)
+  refused-listing number e z = sym (unless-some _ number _ _ e z)
 
-  module _ (t : envelope ≡ true) (ring : List ℕ) (r : ring ≡ ringIn input) where
-    pub empty-listing : length ring ≡ 0 → refusalLine ringEmpty ≡ listing input
-    unfolding listing
-    empty-listing z = rw (← e, t, ← r, eqb-yes (length ring) 0 z)
-
-    module _ (some : length ring ≢ 0) where
-      pub long-listing : longestListed < length ring → refusalLine ringTooLong ≡ listing input
-      unfolding listing
-      long-listing l = rw (← e, t, ← r, eqb-no (length ring) 0 some, ltb-yes longestListed (length ring) l)
-
-      pub ring-listing : length ring ≤ longestListed → (start : ℕ) → start ≡ startIn input → ringLines ring (trackIn input) start ≡ listing
-          input
-      unfolding listing
-      ring-listing l start s = rw (← e, t, ← r, eqb-no (length ring) 0 some, ltb-no longestListed (length ring) l, s)
-
--- the ring as the code has it, the part from byte 10 on
-pub rest-is : (input : List ℕ) → take (length input - 10) (drop 10 input) ≡ ringIn input
-rest-is input = take-all (length input - 10) (drop 10 input) (omega (arith, length-drop 10 input))
-
--- an envelope has ten bytes in front of its ring
-pub header-there : (input : List ℕ) (envelope : Bool) → envelope ≡ isEnvelope input → envelope ≡ true → 10 ≤ length input
-unfolding isEnvelope
-header-there input envelope e t = go (leb 10 (length input)) _ refl (sym e ∙ t)
-  where
-    go : (b rest : Bool) → leb 10 (length input) ≡ b → b && rest ≡ true → 10 ≤ length input
-    go true rest q u = leb→le 10 (length input) (from-true (leb 10 (length input)) q)
-    go false rest q u = absurd (let z : _≡_ {A = ℕ} 0 1 = cc in omega arith)
+  pub ring-listing : inputRefusal input ≡ 0 → (ring : List ℕ) (start : ℕ) → ring ≡ ringIn input → start ≡ startIn input
+      → ringLines ring (trackIn input) start ≡ listing input
+  unfolding listing
+  ring-listing e ring start r s = rw (e, r, s)
 
 -- what was put under another name
 pub put-same : (out after text line : List ℕ) (behind : ℕ) → text ≡ line → Put out 0 text after behind → Put out 0 line after behind

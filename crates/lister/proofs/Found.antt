@@ -13,6 +13,8 @@ use Rattle.base.specs.Lists.{joined, countOf}
 use Rattle.base.proofs.Stores.{joined-same, count-le}
 use Rattle.geometry.specs.Zones.{sectorsOf}
 use Rattle.geometry.proofs.ZoneLaws.{sectors-of}
+use Rattle.scan.specs.declared.BadSymbol.{BadSymbol}
+use Rattle.scan.specs.BadSymbols.{badSymbol}
 use Rattle.track_read.specs.declared.TrackRead.{TrackRead}
 use Rattle.track_read.specs.declared.TrackRead.the-variants.{Found, Refused as NotRead}
 use Rattle.track_read.specs.Reading.{readSector, readPayloads, readStatuses}
@@ -32,7 +34,8 @@ module _ (ring : List ℕ) (track start : ℕ) where
         let n = sectors-of track .1 in
         none-refused ring track start payloads statuses (omega arith) (omega arith) (record { some = some; small = small })
 
-    pub is-found : trackRead ring track start payloads statuses ≡ Found (countOf 1 (readStatuses ring track start))
+    pub is-found : trackRead ring track start payloads statuses
+        ≡ Found (countOf 1 (readStatuses ring track start)) (badSymbol ring track start)
     unfolding trackRead
     is-found = rw taken
 
@@ -45,15 +48,16 @@ module _ (ring : List ℕ) (track start : ℕ) where
     is-told = rw taken
 
     -- the answer of `decode_track_from` is how many there are, at most 21, and no refusal
-    pub found-is : (answer : TrackRead) (n : ℕ) → answer ≡ trackRead ring track start payloads statuses → answer ≡ Found n
-        → n ≡ countOf 1 (readStatuses ring track start)
-    found-is answer n e g = let f = is-found in cc
+    pub found-is : (answer : TrackRead) (n : ℕ) (bad : BadSymbol) → answer ≡ trackRead ring track start payloads statuses
+        → answer ≡ Found n bad → n ≡ countOf 1 (readStatuses ring track start)
+    found-is answer n bad e g = let f = is-found in cc
 
-    pub few-found : (answer : TrackRead) (n : ℕ) → answer ≡ trackRead ring track start payloads statuses → answer ≡ Found n → n ≤ 21
-    few-found answer n e g =
+    pub few-found : (answer : TrackRead) (n : ℕ) (bad : BadSymbol) → answer ≡ trackRead ring track start payloads statuses
+        → answer ≡ Found n bad → n ≤ 21
+    few-found answer n bad e g =
         omega (
           arith,
-          found-is answer n e g,
+          found-is answer n bad e g,
           count-le 1 (readStatuses ring track start),
           count-statuses ring track start,
           sectors-of track .1,
@@ -76,15 +80,15 @@ module _ (ring : List ℕ) (track start : ℕ) where
 
   module _ (payloads statuses : List ℕ) (h : 5376 ≤ length payloads) (k : 21 ≤ length statuses) (some : 0 < length ring)
       (small : length ring ≤ longestRing) where
-    pub ring-put : (answer : TrackRead) (n : ℕ) (ps ss out after : List ℕ) (behind : ℕ)
-        → answer ≡ trackRead ring track start payloads statuses → answer ≡ Found n
+    pub ring-put : (answer : TrackRead) (n : ℕ) (bad : BadSymbol) (ps ss out after : List ℕ) (behind : ℕ)
+        → answer ≡ trackRead ring track start payloads statuses → answer ≡ Found n bad
         → ps ≡ trackPayloads ring track start payloads statuses → ss ≡ trackStatuses ring track start payloads statuses
         → Put out 0 (headLine track n (sectorsOf track) ++ lines (sectorsOf track) ss ps) after behind
         → Put out 0 (ringLines ring track start) after behind
     unfolding ringLines
-    ring-put answer n ps ss out after behind e g p s put =
+    ring-put answer n bad ps ss out after behind e g p s put =
         let f : headLine track n (sectorsOf track) ≡ headLine track (countOf 1 (readStatuses ring track start)) (sectorsOf track)
-        = ap (λ (m : ℕ). headLine track m (sectorsOf track)) (found-is payloads statuses h k some small answer n e g) in
+        = ap (λ (m : ℕ). headLine track m (sectorsOf track)) (found-is payloads statuses h k some small answer n bad e g) in
         let l : lines (sectorsOf track) ss ps ≡ joined (sectorsOf track) (λ j. lineOf j (readSector ring track start j))
         = ap₂ (λ (a b : List ℕ). lines (sectorsOf track) a b) (s ∙ is-told payloads statuses h k some small)
         (p ∙ is-laid payloads statuses h k some small)

@@ -5,8 +5,11 @@ use mathlib.Core.List.{List, [], _∷_}
 use lib.Dec.{eqb, ltb, leb}
 use lib.ListN.{length, getD, take, drop}
 use Rattle.base.specs.Bytes.{sameBytes, twoBytes, fourBytes}
-use Rattle.base.specs.Refusals.{ringEmpty, ringTooLong, wrongImage, _when_, refusal}
+use Rattle.base.specs.Refusals.{ringEmpty, ringTooLong, wrongImage, _when_, refusal, unless}
 use Rattle.base.specs.Words.{ascii}
+use Rattle.scan.specs.declared.BadSymbol.{BadSymbol}
+use Rattle.scan.specs.declared.BadSymbol.the-variants.{NoneMet}
+use Rattle.scan_symbols.specs.First.{firstBadOf}
 
 -- at least ten bytes, the letters, and version 1
 unfoldable pub isEnvelope : List ℕ → Bool
@@ -32,3 +35,7 @@ inputRefusal input =
     ∷ ringEmpty when eqb (length (ringIn input)) 0
     ∷ ringTooLong when ltb longestListed (length (ringIn input))
     ∷ [])
+
+-- the first bad symbol of its ring, which the listing does not tell
+unfoldable pub symbolIn : List ℕ → BadSymbol
+symbolIn input = unless (inputRefusal input) (λ n. NoneMet) (firstBadOf (ringIn input) (trackIn input) (startIn input))

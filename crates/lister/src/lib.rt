@@ -1,4 +1,5 @@
-// The ring lister: a ring behind a small header in, a line for each sector found on it out.
+// The ring lister: a ring behind a small header in, a line for each sector found on it out. And the first bad symbol of such a ring, which
+// the listing does not tell.
 ghost use mathlib.Core.Path.{_≡_};
 ghost use mathlib.Core.List.{_++_};
 ghost use Prim.Native.Nat.{_+_, _*_, _<_, _≤_};
@@ -6,10 +7,11 @@ ghost use lib.ListN.{length};
 ghost use Rattle.geometry.specs.Zones.{sectorsOf};
 ghost use Rattle.page_text.specs.Numerals.{decimal};
 ghost use Rattle.page_text.specs.Put.{Put};
-ghost use Rattle.lister.specs.Envelope.{isEnvelope, longestListed};
+ghost use Rattle.lister.specs.Envelope.{isEnvelope, longestListed, inputRefusal, symbolIn};
 ghost use Rattle.lister.specs.Listing.{headLine, sectorLine, refusalLine, ringLines, listing};
 ghost use Rattle.lister.specs.Listing.{longestListing, outRefusal, listed, outAfter, listedNumber};
 ghost use Rattle.lister.specs.Inside.{lineAt, lines};
+use scan::BadSymbol;
 use track_read::TrackRead;
 
 // What listing answers: how many bytes are written, or a refusal number.
@@ -35,6 +37,33 @@ fn is_envelope(input: &[u8]) -> bool
         return base::read_word(input, 3) == 1;
     }
     false
+}
+
+// The number by which an input is refused, 0 where it is not.
+pub fn input_refusal(input: &[u8]) -> u8
+    ensures { λ r. ⌜ r ≡ inputRefusal (now (input .entry)) ⌝ }
+{
+    if is_envelope(input) {
+        let bytes = input.len() - 10;
+        if bytes == 0 {
+            return base::RING_EMPTY;
+        }
+        if MAX_LISTED < bytes {
+            return base::RING_TOO_LONG;
+        }
+        return 0;
+    }
+    base::WRONG_IMAGE
+}
+
+// The first bad symbol of the ring in an input; none where the input is refused.
+pub fn ring_symbol(input: &[u8]) -> BadSymbol
+    ensures { λ r. ⌜ r ≡ symbolIn (now (input .entry)) ⌝ }
+{
+    if input_refusal(input) != 0 {
+        return BadSymbol::NoneMet;
+    }
+    scan_symbols::first_bad(&input[10..], input[5], base::read_long(input, 6))
 }
 
 // A word and a number in decimal.
@@ -134,7 +163,7 @@ fn put_ring(out: &mut [u8], ring: &[u8], track: u8, start: usize) -> usize
     let mut statuses = [0u8; 21];
     let answer = track_read::decode_track_from(ring, track, start, &mut payloads, &mut statuses);
     match answer {
-        TrackRead::Found(found) => put_track(out, track, found, &statuses, &payloads),
+        TrackRead::Found(found, _) => put_track(out, track, found, &statuses, &payloads),
         TrackRead::Refused(number) => put_refused(out, number),
     }
 }
@@ -144,17 +173,11 @@ fn put_listing(out: &mut [u8], input: &[u8]) -> usize
     requires { ⌜ longestListing ≤ length (now out) ⌝ }
     ensures { λ r. ⌜ Put (now (out .entry)) 0 (listing (now (input .entry))) (now (out .exit)) r ⌝ }
 {
-    if is_envelope(input) {
-        let ring = &input[10..];
-        if ring.len() == 0 {
-            return put_refused(out, base::RING_EMPTY);
-        }
-        if MAX_LISTED < ring.len() {
-            return put_refused(out, base::RING_TOO_LONG);
-        }
-        return put_ring(out, ring, input[5], base::read_long(input, 6));
+    let number = input_refusal(input);
+    if number != 0 {
+        return put_refused(out, number);
     }
-    put_refused(out, base::WRONG_IMAGE)
+    put_ring(out, &input[10..], input[5], base::read_long(input, 6))
 }
 
 // What is printed for an input: the sectors found on its ring, or the refusal. Room for the longest listing is needed,

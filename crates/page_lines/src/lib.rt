@@ -8,7 +8,7 @@ ghost use Rattle.page_lines.specs.Tally.{statusText, unreadAt, unread, m
 ghost use Rattle.page_lines.specs.Answers.{refusedLine, clearedLine};
 
 // How many statuses are 1.
-fn count_reading(statuses: &[u8]) -> usize
+pub fn count_reading(statuses: &[u8]) -> usize
     ensures { λ r. ⌜ r ≡ countOf 1 (now (statuses .entry)) ⌝ }
 {
     let mut count: usize = 0;

@@ -2,7 +2,8 @@
 ghost use mathlib.Core.Path.{_≡_};
 ghost use Rattle.page.specs.Page.{sheet, writes};
 ghost use Rattle.image_statuses.specs.Statuses.{statusesOf};
-ghost use Rattle.page_track.specs.Tracks.{trackLine, ifShown, trackText, linesText, sideText};
+ghost use Rattle.image_statuses.specs.Symbols.{symbolOf};
+ghost use Rattle.page_track.specs.Tracks.{symbolText, lineIn, ifShown, trackText, linesText, sideText};
 ghost use Rattle.page_track.specs.Inside.{noted, notedTo};
 
 // Each status is marked.
@@ -16,24 +17,38 @@ fn note(statuses: &[u8], met: &mut [bool; 256])
     }
 }
 
+// Where a sector is missing, the first bad symbol of its track; else the track is not scanned again.
+fn put_symbol(page: &mut [u8], at: usize, image: &[u8], track: u8, statuses: &[u8]) -> usize
+    ensures { λ r. ⌜ sheet (now (page .exit)) r ≡ writes (sheet (now (page .entry)) at)
+        (symbolText (now (statuses .entry)) (symbolOf (now (image .entry)) track)) ⌝ }
+{
+    if page_lines::count_reading(statuses) == statuses.len() {
+        return at;
+    }
+    let bad = image_statuses::track_symbol(image, track);
+    page_symbols::put_behind(page, at, bad)
+}
+
 // The line of a track, by its statuses.
-fn put_statuses(page: &mut [u8], at: usize, track: u8, statuses: &[u8]) -> usize
-    ensures { λ r. ⌜ sheet (now (page .exit)) r ≡ writes (sheet (now (page .entry)) at) (trackLine track (now (statuses .entry))) ⌝ }
+fn put_statuses(page: &mut [u8], at: usize, image: &[u8], track: u8, statuses: &[u8]) -> usize
+    ensures { λ r. ⌜ sheet (now (page .exit)) r ≡ writes (sheet (now (page .entry)) at)
+        (lineIn (now (image .entry)) track (now (statuses .entry))) ⌝ }
 {
     let a = page::counted(page, at, b"track", track as u64);
     if base::any_nonzero(statuses) {
         let b = page_lines::tally(page, a, b" reads", statuses, true);
-        return page::words(page, b, b"\n");
+        let c = put_symbol(page, b, image, track, statuses);
+        return page::words(page, c, b"\n");
     }
     page::words(page, a, b" absent\n")
 }
 
-fn put_if_shown(page: &mut [u8], at: usize, track: u8, statuses: &[u8]) -> usize
+fn put_if_shown(page: &mut [u8], at: usize, image: &[u8], track: u8, statuses: &[u8]) -> usize
     ensures { λ r. ⌜ sheet (now (page .exit)) r ≡ writes (sheet (now (page .entry)) at)
-        (ifShown trackLine track (now (statuses .entry))) ⌝ }
+        (ifShown (lineIn (now (image .entry))) track (now (statuses .entry))) ⌝ }
 {
     if image_statuses::is_shown(track, statuses) {
-        return put_statuses(page, at, track, statuses);
+        return put_statuses(page, at, image, track, statuses);
     }
     at
 }
@@ -47,7 +62,7 @@ fn put_track(page: &mut [u8], at: usize, image: &[u8], track: u8, met: &mut [boo
     image_statuses::track_statuses(image, track, &mut statuses);
     let count = geometry::sectors_per_track(track) as usize;
     note(page::so_far(&statuses, count), met);
-    put_if_shown(page, at, track, page::so_far(&statuses, count))
+    put_if_shown(page, at, image, track, page::so_far(&statuses, count))
 }
 
 fn put_lines(page: &mut [u8], at: usize, image: &[u8], met: &mut [bool; 256]) -> usize

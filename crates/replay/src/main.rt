@@ -1,5 +1,6 @@
 // Rows carried out on two buffers, and the library asked about them, a line for each answer: compared with what the original
 // answered (compare/README.md lists the rows). samples/make makes its images by them too.
+mod blocks;
 mod buffers;
 mod captures;
 mod images;
@@ -36,6 +37,8 @@ fn turn_part(part: &mut [u8], source: &[u8], row: Row) {
             tracks::build(part, source, row);
         }
         b'B' => tracks::build_and_tell(part, source, row),
+        b'b' => blocks::encode(part, source, row),
+        b'd' => blocks::decode(part, source, row),
         b'U' => sectors::replace(part, source, row, true),
         b'K' => sectors::replace(part, source, row, false),
         b'e' => captures::encode(part, source, row),

@@ -2,23 +2,26 @@
 use crate::rows;
 use crate::rows::Row;
 use crate::says;
-use base::Sector;
 use sector::Replaced;
+use sector::SectorRead;
 
-fn decoded(ring: &[u8], track: u8, number: u8, unique: bool) -> Sector {
+fn decoded(ring: &[u8], track: u8, number: u8, unique: bool) -> SectorRead {
     if unique {
         return sector::decode_sector_unique(ring, track, number);
     }
     sector::decode_sector_consistent(ring, track, number)
 }
 
-fn tell_sector(answer: Sector) {
-    if !answer.ok {
-        says::refused(answer.number);
+fn tell_sector(answer: SectorRead) {
+    let found = answer.sector;
+    if !found.ok {
+        says::refused(found.number);
         return;
     }
-    let bytes = answer.bytes;
+    let bytes = found.bytes;
+    let met = answer.bad;
     says::words(b"sector");
+    says::bad(met);
     says::sum_of(&bytes);
 }
 
@@ -37,7 +40,10 @@ fn replaced(ring: &mut [u8], track: u8, number: u8, bytes: &[u8; 256], unique: b
 
 fn tell_replaced(answer: Replaced) {
     match answer {
-        Replaced::Written => says::words(b"written"),
+        Replaced::Written(met) => {
+            says::words(b"written");
+            says::bad(met);
+        }
         Replaced::Refused(n) => says::refused(n),
     }
 }

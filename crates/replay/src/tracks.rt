@@ -73,8 +73,9 @@ fn records_sum(numbers: &[u64], payloads: &[u8], n: usize) -> u32
 
 fn tell_records(answer: Scanned, numbers: &[u64], payloads: &[u8]) {
     match answer {
-        Scanned::Records(n) => {
+        Scanned::Records(n, met) => {
             says::number(b"records", n as u64);
+            says::bad(met);
             says::checksum(records_sum(numbers, payloads, least(n, MOST_RECORDS)));
         }
         Scanned::Refused(n) => says::refused(n),
@@ -121,10 +122,11 @@ fn tell_statuses(statuses: &[u8]) {
 
 fn tell_track(answer: TrackRead, payloads: &[u8], statuses: &[u8]) {
     match answer {
-        TrackRead::Found(n) => {
+        TrackRead::Found(n, met) => {
             says::number(b"found", n as u64);
             says::words(b" status ");
             tell_statuses(statuses);
+            says::bad(met);
             says::sum_of(payloads);
         }
         TrackRead::Refused(n) => says::refused(n),

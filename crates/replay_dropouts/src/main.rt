@@ -250,7 +250,7 @@ fn one_read(c: Counts, cut: Cut, payloads: &[u8]) -> Counts
         &mut statuses,
     );
     match answer {
-        TrackRead::Found(_) => tally(c, cut, payloads, &out, &statuses),
+        TrackRead::Found(_, _) => tally(c, cut, payloads, &out, &statuses),
         TrackRead::Refused(_) => counted(c, Fate::Other),
     }
 }

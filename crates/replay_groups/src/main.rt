@@ -1,16 +1,17 @@
 // Groups of the nibble code, encoded and decoded, with a line for each set of them. What it must write was written by
-// the original (compare/README.md).
+// the original; where a symbol is bad, it was asked of each symbol alone (compare/README.md).
 use libc::STDOUT_FILENO;
 use replay_shared::draw;
 use replay_shared::sum;
 
 // A set of groups under way: the generator's state, how many groups there were, how many of them came back as they
-// were (or were refused), and the checksum of what was made.
+// were (or were refused), the checksum of what was made, and that of the refused groups' first bad symbols.
 struct Part {
     state: u32,
     count: u64,
     kept: u64,
     total: u32,
+    firsts: u32,
 }
 
 fn new_part(seed: u32) -> Part {
@@ -19,6 +20,7 @@ fn new_part(seed: u32) -> Part {
         count: 0,
         kept: 0,
         total: sum::START,
+        firsts: sum::START,
     }
 }
 
@@ -43,6 +45,7 @@ fn there_and_back(p: Part, group: [u8; 4]) -> Part {
         count: more(p.count, true),
         kept: more(p.kept, came_back),
         total: sum::mix_all(p.total, &code),
+        firsts: p.firsts,
     }
 }
 
@@ -59,6 +62,11 @@ fn decoded(p: Part, code: [u8; 5]) -> Part {
         } else {
             p.total
         },
+        firsts: if ok {
+            p.firsts
+        } else {
+            sum::mix(p.firsts, answer.symbol)
+        },
     }
 }
 
@@ -68,13 +76,26 @@ fn write(line: &mut [u8], at: usize) {
     io::write_all(STDOUT_FILENO, page::so_far(line, n));
 }
 
-fn show(name: &[u8], p: Part, what: &[u8]) {
+// What every line says.
+fn counted(line: &mut [u8], name: &[u8], p: Part, what: &[u8]) -> usize {
+    let mut at = page::words(line, 0, name);
+    at = page::number(line, at, p.count);
+    at = page::words(line, at, what);
+    at = page::number(line, at, p.kept);
+    page::sum(line, at, p.total)
+}
+
+fn show_back(name: &[u8], p: Part) {
     let mut line = [0u8; 128];
-    let mut at = page::words(&mut line, 0, name);
-    at = page::number(&mut line, at, p.count);
-    at = page::words(&mut line, at, what);
-    at = page::number(&mut line, at, p.kept);
-    at = page::sum(&mut line, at, p.total);
+    let at = counted(&mut line, name, p, b" back");
+    write(&mut line, at);
+}
+
+fn show_refused(name: &[u8], p: Part) {
+    let mut line = [0u8; 128];
+    let mut at = counted(&mut line, name, p, b" refused");
+    at = page::words(&mut line, at, b" first symbols");
+    at = page::sum(&mut line, at, p.firsts);
     write(&mut line, at);
 }
 
@@ -144,8 +165,8 @@ fn run(set: Set, seed: u32, turns: u32) -> Part {
 }
 
 fn main() {
-    show(b"prefixes", run(Set::Prefixes, 0, 65536), b" back");
-    show(b"random", run(Set::RandomGroups, 1541, 8192), b" back");
-    show(b"codes", run(Set::RandomCodes, 1542, 65536), b" refused");
-    show(b"damaged", run(Set::DamagedCodes, 1543, 8192), b" refused");
+    show_back(b"prefixes", run(Set::Prefixes, 0, 65536));
+    show_back(b"random", run(Set::RandomGroups, 1541, 8192));
+    show_refused(b"codes", run(Set::RandomCodes, 1542, 65536));
+    show_refused(b"damaged", run(Set::DamagedCodes, 1543, 8192));
 }

@@ -10,6 +10,9 @@ use Rattle.base.proofs.Stores.{put-many}
 use Rattle.ring.specs.Bit.{bits, bitAt}
 use Rattle.scan.specs.declared.SectorRecord.{SectorRecord}
 use Rattle.scan.specs.Scan.{recordsFrom, records, mostRecords}
+use Rattle.scan.specs.declared.BadSymbol.{BadSymbol}
+use Rattle.scan.specs.declared.Scanned.the-variants.{Records}
+use Rattle.scan.specs.BadSymbols.{badSymbol}
 use Rattle.scan.specs.Answers.{flat, payloadsOf}
 use Rattle.scan.specs.Inside.{Listed}
 use Rattle.scan.proofs.ScanLaws.{Every}
@@ -108,11 +111,12 @@ module _ {ring : List ℕ} {track start : ℕ} {rows₀ payloads₀ rows payload
               ∙ ap₂ (λ (l : List ℕ) (y : ℕ). l ++ drop y payloads₀) (sym (payloads-snoc (i .done) r)) e;
         }
 
-  pub list-ends : recordsFrom (bitAt ring) track (endOf ring start) bit ≡ [] → Listed (records ring track start) rows₀ payloads₀ rows
-      payloads n
-  list-ends e =
-      subst (λ (rs : List SectorRecord). Listed rs rows₀ payloads₀ rows payloads n) (all-passed (i .passed) e) (record {
-        count = i .count;
+  pub list-ends : (bad : BadSymbol) → recordsFrom (bitAt ring) track (endOf ring start) bit ≡ [] → bad ≡ badSymbol ring track start
+      → Listed (records ring track start) (badSymbol ring track start) rows₀ payloads₀ rows payloads (Records n bad)
+  list-ends bad e met =
+      subst (λ (rs : List SectorRecord). Listed rs (badSymbol ring track start) rows₀ payloads₀ rows payloads (Records n bad))
+      (all-passed (i .passed) e) (record {
+        told = ap₂ Records (i .count) met;
         laid = i .laid ∙ ap (λ (y : ℕ). flat (i .done) ++ drop (2 * y) rows₀) (i .count);
         packed = i .packed ∙ ap (λ (y : ℕ). payloadsOf (i .done) ++ drop (256 * y) payloads₀) (i .count);
       })

@@ -2,20 +2,21 @@
 --     step-met                       what a visit comes to, by its verdicts
 --     turn-none                      the scan is over
 --     turn-record, turn-skip         a record, or the scan goes on
---     turn-near                      where the places lie
+--     turn-near, turn-index          where the places lie, and which symbol
 --     turn-visit, turn-over          the same of visits; turn-met, turn-long, turn-on: the visit itself, its payload, further on
 use mathlib.Core.Path.{_≡_, refl, sym, ap, _∙_, subst}
 use mathlib.Core.List.{List, [], _∷_}
 use Prim.Native.Nat.{ℕ, _+_, _-_, _≤_, _<_}
 use native.Mathlib.Omega.{arith}
 use mathlib.Core.Bool.{Bool, true, false, _&&_}
-use lib.Dec.{eqb, ltb}
+use lib.Dec.{eqb, ltb, lit<}
 use lib.ListN.{length, replicate, length-take, length-drop}
 use Rattle.base.specs.Choice.{pick}
 use Rattle.base.specs.Lists.{xorOf}
 use Rattle.geometry.specs.Zones.{sectorsOf}
 use Rattle.gcr.specs.Symbols.{Decoded, Bytes, IllegalAt}
 use Rattle.gcr.specs.Places.{decodeAt}
+use Rattle.gcr.proofs.DecodeLaws.{decode-illegal}
 use Rattle.scan_sync.specs.declared.SyncEnd.{SyncEnd}
 use Rattle.scan_sync.specs.declared.SyncEnd.the-variants.{At, Nothing}
 use Rattle.scan_sync.specs.Sync.{syncEnd}
@@ -23,25 +24,25 @@ use Rattle.scan_visit.specs.declared.HeaderAt.{HeaderAt}
 use Rattle.scan_visit.specs.declared.DataAt.{DataAt}
 use Rattle.scan_visit.specs.declared.DataAt.the-variants.{Nowhere, IllegalIn, OtherMark, WrongSum, Another, Good}
 use Rattle.scan_visit.specs.declared.Visited.{Visited}
-use Rattle.scan_visit.specs.Visit.{DataFound, BadData, AnotherHeader, GoodData, NoSync, IllegalData, OtherMarker, FalseData}
-use Rattle.scan_visit.specs.Visit.{HeaderFound, BadHeader, TrueHeader, IllegalHeader, NoHeader, FalseHeader, Visit, nextBit, afterHeader}
+use Rattle.scan_visit.specs.Visit.{BadData, AnotherHeader, GoodData, NoSync, IllegalData, OtherMarker, FalseData}
+use Rattle.scan_visit.specs.Visit.{HeaderFound, BadHeader, TrueHeader, NoHeader, FalseHeader, nextBit, afterHeader}
 use Rattle.scan_visit.specs.Visit.{at, payloadIn, byData, headerMark, trueSum, byHeader, dataAt, bySync, dataFor, visit}
-use Rattle.scan_visit.specs.Answers.{aBlock, Met, aVisit, dataAnswer, visitAnswer}
+use Rattle.scan_visit.specs.Answers.{DataBlock, Met, aVisit, dataAnswer, visitAnswer}
 use Rattle.scan_visit.proofs.GroupLaws.{length-bytes}
 use Rattle.scan_visit.proofs.MetLaws.{data-near}
 use Rattle.scan.specs.declared.NextVisit.{NextVisit}
 use Rattle.scan.specs.declared.NextPlace.{NextPlace}
-use Rattle.scan.specs.declared.SectorRecord.{SectorRecord}
 use Rattle.scan.specs.Scan.{nextSync, visits, aRecord, recordsFrom}
-use Rattle.scan.specs.Meeting.{VisitMet, visitWith, noVisit, visitAt, placeIn, bitAfter, sectorIn, noPlace, placeMet}
-use Rattle.scan.proofs.StepLaws.{Step, skip, good, stepData, stepHeader, stepOf}
+use Rattle.scan.specs.Meeting.{VisitMet, visitWith, visitAt, placeIn, bitAfter, sectorIn, noPlace, placeMet}
+use Rattle.scan.specs.Meeting.{indexIn}
+use Rattle.scan.proofs.StepLaws.{Step, skip, good, stepHeader, stepOf}
 use Rattle.scan.proofs.ScanLaws.{next-found, visits-none, visits-turn, visit-on, onStep, skip-on}
 use Rattle.scan.proofs.NextLaws.{visit-at, no-sync, at-sync}
 
 -- ---- what a visit comes to, by its verdicts
-abbrev byVerdict : ℕ → HeaderAt → DataAt → List ℕ → Step
+abbrev pub byVerdict : ℕ → HeaderAt → DataAt → List ℕ → Step
 byVerdict h header Nowhere payload = skip (h + 1)
-byVerdict h header (IllegalIn d) payload = skip (h + 1)
+byVerdict h header (IllegalIn d k) payload = skip (h + 1)
 byVerdict h header (OtherMark d) payload = skip (h + 1)
 byVerdict h header (WrongSum d) payload = skip (h + 1)
 byVerdict h header (Another d) payload = skip (d + 1)
@@ -65,18 +66,18 @@ row m = placeMet (m .header) (m .data)
 false-true : false ≡ true → ⊥
 false-true e = let z : _≡_ {A = ℕ} 0 1 = cc in omega arith
 
-met-good : (h : ℕ) (a : HeaderAt) (v : DataAt) (p : List ℕ) → placeMet a v .found ≡ true
+pub met-good : (h : ℕ) (a : HeaderAt) (v : DataAt) (p : List ℕ) → placeMet a v .found ≡ true
     → byVerdict h a v p ≡ good (aRecord (placeMet a v .sector) (placeMet a v .place) p)
 met-good h a Nowhere p e = absurd (false-true e)
-met-good h a (IllegalIn d) p e = absurd (false-true e)
+met-good h a (IllegalIn d k) p e = absurd (false-true e)
 met-good h a (OtherMark d) p e = absurd (false-true e)
 met-good h a (WrongSum d) p e = absurd (false-true e)
 met-good h a (Another d) p e = absurd (false-true e)
 met-good h a (Good d) p e = refl
 
-met-skip : (h : ℕ) (a : HeaderAt) (v : DataAt) (p : List ℕ) → placeMet a v .found ≡ false → byVerdict h a v p ≡ skip (bitAfter h v)
+pub met-skip : (h : ℕ) (a : HeaderAt) (v : DataAt) (p : List ℕ) → placeMet a v .found ≡ false → byVerdict h a v p ≡ skip (bitAfter h v)
 met-skip h a Nowhere p e = refl
-met-skip h a (IllegalIn d) p e = refl
+met-skip h a (IllegalIn d k) p e = refl
 met-skip h a (OtherMark d) p e = refl
 met-skip h a (WrongSum d) p e = refl
 met-skip h a (Another d) p e = refl
@@ -85,7 +86,7 @@ met-skip h a (Good d) p e = absurd (false-true (sym e))
 -- after a record the scan goes on behind its block
 pub record-bit : (h : ℕ) (a : HeaderAt) (v : DataAt) → placeMet a v .found ≡ true → bitAfter h v ≡ placeMet a v .place + 2600
 record-bit h a Nowhere e = absurd (false-true e)
-record-bit h a (IllegalIn d) e = absurd (false-true e)
+record-bit h a (IllegalIn d k) e = absurd (false-true e)
 record-bit h a (OtherMark d) e = absurd (false-true e)
 record-bit h a (WrongSum d) e = absurd (false-true e)
 record-bit h a (Another d) e = absurd (false-true e)
@@ -94,7 +95,7 @@ record-bit h a (Good d) e = refl
 -- ---- the place that a verdict names
 pub place-small : (a : HeaderAt) (v : DataAt) → placeMet a v .place ≤ placeIn v
 place-small a Nowhere = omega arith
-place-small a (IllegalIn d) = omega arith
+place-small a (IllegalIn d k) = omega arith
 place-small a (OtherMark d) = omega arith
 place-small a (WrongSum d) = omega arith
 place-small a (Another d) = omega arith
@@ -118,28 +119,62 @@ placed x d = go (headerMark (decodeAt x d 4))
     go true = refl
     go false = by (decodeAt x d 260)
 
-data-in : (x : ℕ → ℕ) (h : ℕ) → placeIn (dataAnswer (dataFor x h) .verdict) < h + 848
-data-in x h = by (syncEnd x (h + 80) 768) refl
+-- the place that a data search comes to, or none
+searched : (P : DataBlock → Type 0) (x : ℕ → ℕ) (h : ℕ) → P (dataAnswer (BadData NoSync))
+    → ((d : ℕ) → syncEnd x (h + 80) 768 ≡ At d → P (dataAnswer (dataAt x d))) → P (dataAnswer (dataFor x h))
+searched P x h none some = by (syncEnd x (h + 80) 768) refl
   where
-    by : (o : SyncEnd) → syncEnd x (h + 80) 768 ≡ o → placeIn (dataAnswer (bySync x o) .verdict) < h + 848
-    by Nothing w = omega arith
-    by (At d) w = subst (λ (y : ℕ). y < h + 848) (sym (placed x d)) (data-near x h d w)
+    by : (o : SyncEnd) → syncEnd x (h + 80) 768 ≡ o → P (dataAnswer (bySync x o))
+    by Nothing w = none
+    by (At d) w = some d w
 
-met-in : (x : ℕ → ℕ) (track h : ℕ) → placeIn (visitAnswer (visit x track h .found) .block .verdict) < h + 848
+-- a visit's verdict on data: that of its data search, or none
+met-by : (P : DataBlock → Type 0) (x : ℕ → ℕ) (track h : ℕ) → P (dataAnswer (BadData NoSync)) → P (dataAnswer (dataFor x h))
+    → P (visitAnswer (visit x track h .found) .block)
 unfolding visit
-met-in x track h = by (decodeAt x h 8)
+met-by P x track h none some = by (decodeAt x h 8)
   where
     tests : (b : List ℕ) (m u l : Bool)
-        → placeIn (visitAnswer (pick m (pick u (pick l (TrueHeader (at b 2) (at b 5) (at b 4) (dataFor x h)) (BadHeader NoHeader))
-        (BadHeader (FalseHeader (at b 2)))) (BadHeader NoHeader)) .block .verdict) < h + 848
-    tests b true true true = data-in x h
-    tests b true true false = omega arith
-    tests b true false l = omega arith
-    tests b false u l = omega arith
+        → P (visitAnswer (pick m (pick u (pick l (TrueHeader (at b 2) (at b 5) (at b 4) (dataFor x h)) (BadHeader NoHeader))
+        (BadHeader (FalseHeader (at b 2)))) (BadHeader NoHeader)) .block)
+    tests b true true true = some
+    tests b true true false = none
+    tests b true false l = none
+    tests b false u l = none
 
-    by : (o : Decoded) → placeIn (visitAnswer (byHeader track (dataFor x h) o) .block .verdict) < h + 848
-    by (IllegalAt k) = omega arith
+    by : (o : Decoded) → P (visitAnswer (byHeader track (dataFor x h) o) .block)
+    by (IllegalAt k) = none
     by (Bytes b) = tests b (eqb (at b 0) 8 && eqb (at b 3) track) (trueSum b) (ltb (at b 2) (sectorsOf track))
+
+met-in : (x : ℕ → ℕ) (track h : ℕ) → placeIn (visitAnswer (visit x track h .found) .block .verdict) < h + 848
+met-in x track h =
+    met-by (λ m. placeIn (m .verdict) < h + 848) x track h (omega arith)
+    (searched (λ m. placeIn (m .verdict) < h + 848) x h (omega arith)
+    (λ d w. subst (λ (y : ℕ). y < h + 848) (sym (placed x d)) (data-near x h d w)))
+
+-- ---- the index of a symbol is below 520
+index-in : (x : ℕ → ℕ) (d : ℕ) → indexIn (dataAnswer (dataAt x d) .verdict) < 520
+unfolding dataAt
+index-in x d = go (headerMark (decodeAt x d 4))
+  where
+    tests : (b : List ℕ) (t u : Bool)
+        → indexIn (dataAnswer (pick t (pick u (GoodData d (payloadIn b)) (BadData (FalseData d))) (BadData (OtherMarker d))) .verdict) < 520
+    tests b true true = lit< tt
+    tests b true false = lit< tt
+    tests b false u = lit< tt
+
+    by : (o : Decoded) → decodeAt x d 260 ≡ o → indexIn (dataAnswer (byData d o) .verdict) < 520
+    by (IllegalAt k) w = omega (arith, decode-illegal x d 260 k w .inside)
+    by (Bytes b) w = tests b (eqb (at b 0) 7) (eqb (xorOf (payloadIn b)) (at b 257))
+
+    go : (m : Bool) → indexIn (dataAnswer (pick m (AnotherHeader d) (byData d (decodeAt x d 260))) .verdict) < 520
+    go true = lit< tt
+    go false = by (decodeAt x d 260) refl
+
+met-index : (x : ℕ → ℕ) (track h : ℕ) → indexIn (visitAnswer (visit x track h .found) .block .verdict) < 520
+met-index x track h =
+    met-by (λ m. indexIn (m .verdict) < 520) x track h (lit< tt)
+    (searched (λ m. indexIn (m .verdict) < 520) x h (lit< tt) (λ d w. index-in x d))
 
 -- ---- the payload has 256 bytes
 long : (d : ℕ) (o : Decoded) → ((b : List ℕ) → o ≡ Bytes b → length b ≡ 260) → length (dataAnswer (byData d o) .payload) ≡ 256
@@ -152,33 +187,18 @@ long d (Bytes b) l = tests (eqb (at b 0) 7) (eqb (xorOf (payloadIn b)) (at b 257
     tests true false = refl
     tests false u = refl
 
-data-long : (x : ℕ → ℕ) (h : ℕ) → length (dataAnswer (dataFor x h) .payload) ≡ 256
+data-long : (x : ℕ → ℕ) (d : ℕ) → length (dataAnswer (dataAt x d) .payload) ≡ 256
 unfolding dataAt
-data-long x h = by (syncEnd x (h + 80) 768)
+data-long x d = go (headerMark (decodeAt x d 4))
   where
-    go : (d : ℕ) (m : Bool) → length (dataAnswer (pick m (AnotherHeader d) (byData d (decodeAt x d 260))) .payload) ≡ 256
-    go d true = refl
-    go d false = long d (decodeAt x d 260) (λ b e. length-bytes x d 260 b e)
-
-    by : (o : SyncEnd) → length (dataAnswer (bySync x o) .payload) ≡ 256
-    by Nothing = refl
-    by (At d) = go d (headerMark (decodeAt x d 4))
+    go : (m : Bool) → length (dataAnswer (pick m (AnotherHeader d) (byData d (decodeAt x d 260))) .payload) ≡ 256
+    go true = refl
+    go false = long d (decodeAt x d 260) (λ b e. length-bytes x d 260 b e)
 
 met-long : (x : ℕ → ℕ) (track h : ℕ) → length (visitAnswer (visit x track h .found) .block .payload) ≡ 256
-unfolding visit
-met-long x track h = by (decodeAt x h 8)
-  where
-    tests : (b : List ℕ) (m u l : Bool)
-        → length (visitAnswer (pick m (pick u (pick l (TrueHeader (at b 2) (at b 5) (at b 4) (dataFor x h)) (BadHeader NoHeader))
-        (BadHeader (FalseHeader (at b 2)))) (BadHeader NoHeader)) .block .payload) ≡ 256
-    tests b true true true = data-long x h
-    tests b true true false = refl
-    tests b true false l = refl
-    tests b false u l = refl
-
-    by : (o : Decoded) → length (visitAnswer (byHeader track (dataFor x h) o) .block .payload) ≡ 256
-    by (IllegalAt k) = refl
-    by (Bytes b) = tests b (eqb (at b 0) 8 && eqb (at b 3) track) (trueSum b) (ltb (at b 2) (sectorsOf track))
+met-long x track h =
+    met-by (λ m. length (m .payload) ≡ 256) x track h refl
+    (searched (λ m. length (m .payload) ≡ 256) x h refl (λ d w. data-long x d))
 
 -- where the scan goes on
 goes-on : (h : ℕ) (f : HeaderFound) → afterHeader h f ≡ bitAfter h (visitAnswer f .block .verdict)
@@ -231,7 +251,7 @@ module _ (x : ℕ → ℕ) (track end b : ℕ) (r : NextVisit) (p : List ℕ) (e
             let here : r .place ≡ h = ap (λ (v : VisitMet). v .place) q in
             (w ∙ ap At (sym here), ap (λ (v : VisitMet). v .met) q ∙ ap (λ (y : ℕ). visitAnswer (visit x track y .found)) (sym here))
 
-    step-is : stepOf (visit x track (r .place)) ≡ byVerdict (r .place) (r .met .header) (r .met .data) p
+    pub step-is : stepOf (visit x track (r .place)) ≡ byVerdict (r .place) (r .met .header) (r .met .data) p
     step-is =
         visit-at x track (r .place) ∙ step-met (r .place) (visit x track (r .place) .found) ∙ ap (stepMet (r .place)) (sym (at-place .1))
 
@@ -244,6 +264,9 @@ module _ (x : ℕ → ℕ) (track end b : ℕ) (r : NextVisit) (p : List ℕ) (e
         let l : placeIn (r .met .data) < r .place + 848 =
         subst (λ (m : Met). placeIn (m .block .verdict) < r .place + 848) (sym (at-place .1)) (met-in x track (r .place)) in
         (f .0, omega (arith, f .1 .1), omega (arith, f .0, f .1 .2), omega (arith, f .0, f .1 .2, l))
+
+    pub turn-index : indexIn (r .met .data) < 520
+    turn-index = subst (λ (m : Met). indexIn (m .block .verdict) < 520) (sym (at-place .1)) (met-index x track (r .place))
 
     pub turn-record : row (r .met) .found ≡ true
         → recordsFrom x track end b

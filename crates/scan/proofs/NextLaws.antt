@@ -72,7 +72,7 @@ module _ (x : ℕ → ℕ) (track end b : ℕ) where
       }
 
 -- ---- the first of the records that are left, however many turns it takes
-none-some : {r : SectorRecord} {rs : List SectorRecord} → [] ≡ r ∷ rs → ⊥
+pub none-some : {r : SectorRecord} {rs : List SectorRecord} → [] ≡ r ∷ rs → ⊥
 none-some e = let z : _≡_ {A = ℕ} 0 1 = cc in omega arith
 
 module _ (x : ℕ → ℕ) (track end : ℕ) where

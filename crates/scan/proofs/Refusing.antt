@@ -12,10 +12,11 @@ use Rattle.base.proofs.Refusing.{unless-some}
 use Rattle.ring.specs.Bit.{IsRing, ringRefusal}
 use Rattle.ring.proofs.RingRefusals.{no-refusal}
 use Rattle.scan.specs.Scan.{records, mostRecords}
+use Rattle.scan.specs.BadSymbols.{badSymbol}
 use Rattle.scan.specs.Answers.{scanRefusal, roomToScan, scanned, rowsAfter, payloadsAfter}
 use Rattle.scan.specs.Inside.{Listed}
 use Rattle.scan.specs.declared.Scanned.{Scanned}
-use Rattle.scan.specs.declared.Scanned.the-variants.{Records, Refused}
+use Rattle.scan.specs.declared.Scanned.the-variants.{Refused}
 
 -- the room that two lent lists give
 pub room : (a m b n : ℕ) → a ≤ m → b ≤ n → leb a m && leb b n ≡ true
@@ -55,9 +56,9 @@ module _ (ring : List ℕ) (track start : ℕ) (rows payloads : List ℕ) where
         let e = no-ring (roomToScan rows payloads) roomy ring number n in
         (sym (unless-some _ number _ _ e z), sym (unless-some _ number _ _ e z), sym (unless-some _ number _ _ e z))
 
-    pub scan-goes : IsRing ring → (n : ℕ) (rs ps : List ℕ) → Listed (records ring track start) rows payloads rs ps n
-        → ScanOut (Records n) rs ps
+    pub scan-goes : IsRing ring → (r : Scanned) (rs ps : List ℕ)
+        → Listed (records ring track start) (badSymbol ring track start) rows payloads rs ps r → ScanOut r rs ps
     unfolding scanned rowsAfter payloadsAfter
-    scan-goes l n rs ps o =
+    scan-goes l r rs ps o =
         let e = is-taken (roomToScan rows payloads) roomy ring l in
-        (rw e (ap Records (o .count)), rw e (o .laid), rw e (o .packed))
+        (rw e (o .told), rw e (o .laid), rw e (o .packed))

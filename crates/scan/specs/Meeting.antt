@@ -1,4 +1,4 @@
--- A visit as the code answers it: both verdicts, where the scan goes on, and the record that was met.
+-- A visit as the code answers it: both verdicts, where the scan goes on, and the record or the bad symbol that was met.
 use Prim.Native.Nat.{ℕ, _+_}
 use mathlib.Core.Bool.{Bool, true, false}
 use mathlib.Core.List.{List}
@@ -15,6 +15,9 @@ use Rattle.scan_visit.specs.Visit.{visit}
 use Rattle.scan_visit.specs.Answers.{aBlock, Met, met, aVisit, visitAnswer}
 use Rattle.scan.specs.declared.NextPlace.{NextPlace}
 use Rattle.scan.specs.declared.NextVisit.{NextVisit}
+use Rattle.scan.specs.declared.BadSymbol.{BadSymbol}
+use Rattle.scan.specs.declared.BadSymbol.the-variants.{NoneMet, InHeader, InData}
+use Rattle.scan.specs.BadSymbols.{symbolBit}
 
 -- the next visit, if there is one: its place, both verdicts, and the payload
 pub record VisitMet : Type 0 where
@@ -36,7 +39,7 @@ visitAt x track (At h) = record { found = true; place = h; met = visitAnswer (vi
 -- the place that a data verdict names, and where the scan goes on after a visit to place h
 abbrev pub placeIn : DataAt → ℕ
 placeIn Nowhere = 0
-placeIn (IllegalIn d) = d
+placeIn (IllegalIn d k) = d
 placeIn (OtherMark d) = d
 placeIn (WrongSum d) = d
 placeIn (Another d) = d
@@ -44,7 +47,7 @@ placeIn (Good d) = d
 
 abbrev pub bitAfter : ℕ → DataAt → ℕ
 bitAfter h Nowhere = h + 1
-bitAfter h (IllegalIn d) = h + 1
+bitAfter h (IllegalIn d k) = h + 1
 bitAfter h (OtherMark d) = h + 1
 bitAfter h (WrongSum d) = h + 1
 bitAfter h (Another d) = d + 1
@@ -52,7 +55,7 @@ bitAfter h (Good d) = d + blockBits
 
 -- the sector of a true header
 abbrev pub sectorIn : HeaderAt → ℕ
-sectorIn Illegal = 0
+sectorIn (Illegal k) = 0
 sectorIn No = 0
 sectorIn (FalseSum sector) = 0
 sectorIn (Sector sector id1 id2) = sector
@@ -63,8 +66,31 @@ noPlace = record { found = false; sector = 0; place = 0 }
 
 abbrev pub placeMet : HeaderAt → DataAt → NextPlace
 placeMet header Nowhere = noPlace
-placeMet header (IllegalIn d) = noPlace
+placeMet header (IllegalIn d k) = noPlace
 placeMet header (OtherMark d) = noPlace
 placeMet header (WrongSum d) = noPlace
 placeMet header (Another d) = noPlace
 placeMet header (Good d) = record { found = true; sector = sectorIn header; place = d }
+
+-- the index that a data verdict names, and the bad symbol that was met on a visit to place h, on a ring of n bits
+abbrev pub indexIn : DataAt → ℕ
+indexIn Nowhere = 0
+indexIn (IllegalIn d k) = k
+indexIn (OtherMark d) = 0
+indexIn (WrongSum d) = 0
+indexIn (Another d) = 0
+indexIn (Good d) = 0
+
+abbrev pub badBehind : ℕ → DataAt → BadSymbol
+badBehind n Nowhere = NoneMet
+badBehind n (IllegalIn d k) = InData k (symbolBit n d k)
+badBehind n (OtherMark d) = NoneMet
+badBehind n (WrongSum d) = NoneMet
+badBehind n (Another d) = NoneMet
+badBehind n (Good d) = NoneMet
+
+abbrev pub badMet : ℕ → ℕ → HeaderAt → DataAt → BadSymbol
+badMet n h (Illegal k) found = InHeader k (symbolBit n h k)
+badMet n h No found = NoneMet
+badMet n h (FalseSum sector) found = NoneMet
+badMet n h (Sector sector id1 id2) found = badBehind n found

@@ -12,11 +12,16 @@ use Rattle.base.proofs.Tests.{ltb-yes}
 use Rattle.ring.specs.Bit.{IsRing, bits, bitAt}
 use Rattle.scan.specs.declared.SectorRecord.{SectorRecord}
 use Rattle.scan.specs.declared.NextRecord.{NextRecord}
+use Rattle.scan.specs.declared.BadSymbol.{BadSymbol}
 use Rattle.scan.specs.Scan.{recordsFrom, records, mostRecords}
+use Rattle.scan.specs.BadSymbols.{badSymbol}
 use Rattle.scan.specs.Answers.{nextOf}
 use Rattle.scan.proofs.NextLaws.{NextIs, next-some, next-none}
 use Rattle.scan.proofs.Passing.{endOf, Passing, sets-out, passes, before-most, all-passed}
 use Rattle.scan.proofs.Few.{few-left}
+use Rattle.scan.proofs.BadSoFar.{BadSoFar, bad-passed, bad-ends}
+use Rattle.scan_rows.specs.declared.NextRow.{NextRow}
+use Rattle.scan_rows.specs.Inside.{withoutBad, NextOf}
 use Rattle.scan_rows.specs.Rows.{stored, laid}
 
 -- a test, as one of two equations
@@ -115,3 +120,19 @@ module _ {ring : List ℕ} {track start bit : ℕ} {done : List SectorRecord} {n
         → then ≡ nextOf (recordsFrom (bitAt ring) track (endOf ring start) (next .row .place + 2600))
         → Laying ring track start (done ++ (next .row ∷ [])) (next .row .place + 2600) then
     goes-on then q = record { passed = passes (i .passed) (next .row) is-next; told = q }
+
+-- ---- the bad symbol beside the next record: what was met so far, and where no record is left, of the whole scan
+pub record Telling (ring : List ℕ) (track start : ℕ) (next : NextRow) : Type 0 where
+  pub further : next .found ≡ true
+      → BadSoFar ring track (endOf ring start) (badSymbol ring track start) (next .bad) (next .row .place + 2600)
+  pub whole : next .found ≡ false → next .bad ≡ badSymbol ring track start
+
+pub tells : {ring : List ℕ} {track start bit : ℕ} {bad : BadSymbol}
+    → BadSoFar ring track (endOf ring start) (badSymbol ring track start) bad bit → (next : NextRow)
+    → NextOf ring track (endOf ring start) bit bad next → Telling ring track start next
+tells {ring} {track} {start} {bit} i next n =
+    record {
+      further = λ f. bad-passed i _ _ refl (n .met) (next .row)
+          (next-some (bitAt ring) track (endOf ring start) bit (withoutBad next) (n .next) f);
+      whole = λ f. bad-ends i _ _ refl (n .met) (next-none (bitAt ring) track (endOf ring start) bit (withoutBad next) (n .next) f);
+    }

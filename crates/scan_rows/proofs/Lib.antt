@@ -1,8 +1,10 @@
 pub mod Records
+pub mod Told
 pub mod Again
 pub mod Laying
 pub mod Refusing
 pub mod Calls
+pub mod Turning
 pub mod NthLaws
 pub mod LocalRows
 pub mod NthCalls

@@ -39,12 +39,13 @@ use Rattle.scan_rows.specs.Inside.{ofScan}
 use Rattle.scan_rows.proofs.Row as Q
 use Rattle.scan_rows.proofs.Row.Laws as Q′
 use Rattle.scan_rows.proofs.Records.{R}
+use Rattle.scan_rows.proofs.Told.{Answer, answered}
 use Rattle.scan.proofs.zero_record as zero-record
 use Rattle.scan_rows.proofs.scan_into_rows as scan-into-rows
 use Rattle.scan_rows.proofs.read_row as read-row
 use Rattle.scan_rows.proofs.of_scan as of-scan
 
--- a row and a scan's answer: their types, and their machine values
+-- a row: its type, and its machine value
 abbrev pub S : RattleType
 S = Q.the-row
 
@@ -53,15 +54,6 @@ told r = LL.val Q.the-type Q′.the-laws r
 
 pub made : (r : Row) (w : Val) → Is S r (w ∷ []) → Is S r (told r ∷ [])
 made r w is = subst (Is S r) (LL.tells Q.the-type Q′.the-laws r (w ∷ []) is) is
-
-abbrev pub Answer : RattleType
-Answer = E.the-row
-
-abbrev pub answered : Scanned → Val
-answered r = EL.val E.the-type E′.the-laws r
-
-pub made-answer : (r : Scanned) (w : Val) → Is Answer r (w ∷ []) → Is Answer r (answered r ∷ [])
-made-answer r w is = subst (Is Answer r) (EL.tells E.the-type E′.the-laws r (w ∷ []) is) is
 
 -- ---- the contracts
 abbrev pub ZeroRecord : {M : Type 1} (𝓤 : URA M) (H : Heap 𝓤) (A : Atoms 𝓤) (mem : Memory → SProp 𝓤) (run : Routine → Fun 𝓤) → Contract 𝓤

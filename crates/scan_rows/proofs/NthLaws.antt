@@ -10,10 +10,12 @@ use Rattle.base.specs.Choice.{pick}
 use Rattle.base.proofs.Tests.{ltb-yes, ltb-no, leb-yes, lt-of}
 use Rattle.base.proofs.Refusing.{unless-by}
 use Rattle.scan.specs.declared.SectorRecord.{SectorRecord}
+use Rattle.scan.specs.declared.BadSymbol.{BadSymbol}
 use Rattle.scan.specs.declared.Scanned.{Scanned}
 use Rattle.scan.specs.declared.Scanned.the-variants.{Records, Refused}
 use Rattle.base.specs.Refusals.{unless}
 use Rattle.scan.specs.Scan.{zeroRecord, records, mostRecords}
+use Rattle.scan.specs.BadSymbols.{badSymbol}
 use Rattle.scan.specs.Answers.{scanRefusal}
 use Rattle.scan_rows.specs.declared.Row.{Row}
 use Rattle.scan_rows.specs.Rows.{laid, refusedRow, noRow, rowAt}
@@ -22,11 +24,13 @@ use Rattle.scan_rows.specs.Inside.{ofScan}
 use Rattle.scan_rows.proofs.Refusing.{answer-by, rows-by}
 
 -- ---- `of_scan`
-pub of-scan-in : (row : Row) (n : ℕ) (answer : Scanned) (count : ℕ) → answer ≡ Records count → n < count → row ≡ ofScan row n answer
-of-scan-in row n answer count e h = rw (e, ltb-yes n count h)
+pub of-scan-in : (row : Row) (n : ℕ) (answer : Scanned) (count : ℕ) (bad : BadSymbol) → answer ≡ Records count bad → n < count
+    → row ≡ ofScan row n answer
+of-scan-in row n answer count bad e h = rw (e, ltb-yes n count h)
 
-pub of-scan-past : (row : Row) (n : ℕ) (answer : Scanned) (count : ℕ) → answer ≡ Records count → count ≤ n → noRow ≡ ofScan row n answer
-of-scan-past row n answer count e h = rw (e, ltb-no n count h)
+pub of-scan-past : (row : Row) (n : ℕ) (answer : Scanned) (count : ℕ) (bad : BadSymbol) → answer ≡ Records count bad → count ≤ n
+    → noRow ≡ ofScan row n answer
+of-scan-past row n answer count bad e h = rw (e, ltb-no n count h)
 
 pub of-scan-refused : (row : Row) (n : ℕ) (answer : Scanned) (number : ℕ) → answer ≡ Refused number
     → refusedRow number ≡ ofScan row n answer
@@ -38,10 +42,11 @@ in-front [] ys n d h = absurd (omega arith)
 in-front (r ∷ rs) ys zero d h = refl
 in-front (r ∷ rs) ys (suc n) d h = in-front rs ys n d (omega arith)
 
-row-laid : (rs ys : List SectorRecord) (n : ℕ) → ofScan (rowAt (laid rs ys) n) n (Records (length rs)) ≡ rowAt rs n
-row-laid rs ys n = by (ltb n (length rs)) refl
+row-laid : (rs ys : List SectorRecord) (n : ℕ) (bad : BadSymbol)
+    → ofScan (rowAt (laid rs ys) n) n (Records (length rs) bad) ≡ rowAt rs n
+row-laid rs ys n bad = by (ltb n (length rs)) refl
   where
-    by : (t : Bool) → ltb n (length rs) ≡ t → ofScan (rowAt (laid rs ys) n) n (Records (length rs)) ≡ rowAt rs n
+    by : (t : Bool) → ltb n (length rs) ≡ t → ofScan (rowAt (laid rs ys) n) n (Records (length rs) bad) ≡ rowAt rs n
     by true e = rw (
       e,
       ltb-yes n (length (laid rs ys)) (omega (arith, lt-of n (length rs) e, length-append rs (drop (length rs) ys))),
@@ -68,7 +73,7 @@ module _ (ring : List ℕ) (track start : ℕ) (ys : List SectorRecord) (e : len
     where
       by : (t : Bool)
           → ofScan (rowAt (pick t (laid (records ring track start) ys) ys) n) n
-          (pick t (Records (length (records ring track start))) (Refused number))
+          (pick t (Records (length (records ring track start)) (badSymbol ring track start)) (Refused number))
           ≡ pick t (rowAt (records ring track start) n) (refusedRow number)
-      by true = row-laid (records ring track start) ys n
+      by true = row-laid (records ring track start) ys n (badSymbol ring track start)
       by false = refl

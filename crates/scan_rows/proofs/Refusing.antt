@@ -14,6 +14,7 @@ use Rattle.ring.specs.Bit.{IsRing}
 use Rattle.scan.specs.declared.SectorRecord.{SectorRecord}
 use Rattle.scan.specs.declared.Scanned.the-variants.{Records, Refused}
 use Rattle.scan.specs.Scan.{records, mostRecords}
+use Rattle.scan.specs.BadSymbols.{badSymbol}
 use Rattle.scan_rows.specs.Rows.{laid}
 use Rattle.scan_rows.specs.Answers.{rowsRefusal, scannedInto, rowsAfter}
 
@@ -37,9 +38,10 @@ module _ (ring : List ℕ) (track start : ℕ) (rows : List SectorRecord) where
   )
 
   -- ---- the answer, the rows afterwards, and what a scan that goes may rest on
-  pub answer-by : scannedInto ring track start rows ≡ pick (eqb number 0) (Records (length (records ring track start))) (Refused number)
+  pub answer-by : scannedInto ring track start rows
+      ≡ pick (eqb number 0) (Records (length (records ring track start)) (badSymbol ring track start)) (Refused number)
   unfolding scannedInto
-  answer-by = unless-by number Refused (Records (length (records ring track start)))
+  answer-by = unless-by number Refused (Records (length (records ring track start)) (badSymbol ring track start))
 
   pub rows-by : rowsAfter ring track start rows ≡ pick (eqb number 0) (laid (records ring track start) rows) rows
   unfolding rowsAfter

@@ -9,6 +9,7 @@ use Rattle.scan.specs.declared.SectorRecord.{SectorRecord}
 use Rattle.scan.specs.declared.Scanned.{Scanned}
 use Rattle.scan.specs.declared.Scanned.the-variants.{Records, Refused}
 use Rattle.scan.specs.Scan.{records, mostRecords}
+use Rattle.scan.specs.BadSymbols.{badSymbol}
 use Rattle.scan.specs.Answers.{scanRefusal}
 use Rattle.scan_rows.specs.declared.Row.{Row}
 use Rattle.scan_rows.specs.Rows.{laid, refusedRow, rowAt}
@@ -17,10 +18,10 @@ use Rattle.scan_rows.specs.Rows.{laid, refusedRow, rowAt}
 abbrev pub rowsRefusal : List ℕ → List SectorRecord → ℕ
 rowsRefusal ring rows = scanRefusal (leb mostRecords (length rows)) (length ring)
 
--- the number of records, or a refusal number
+-- the number of records and the bad symbol, or a refusal number
 unfoldable pub scannedInto : List ℕ → ℕ → ℕ → List SectorRecord → Scanned
 scannedInto ring track start rows =
-    unless (rowsRefusal ring rows) Refused (Records (length (records ring track start)))
+    unless (rowsRefusal ring rows) Refused (Records (length (records ring track start)) (badSymbol ring track start))
 
 -- the rows afterwards: all as lent where the scan is refused
 unfoldable pub rowsAfter : List ℕ → ℕ → ℕ → List SectorRecord → List SectorRecord

@@ -4,11 +4,14 @@ ghost use Prim.Native.Nat.{_≤_};
 ghost use lib.Dec.{leb};
 ghost use lib.ListN.{length};
 ghost use Rattle.ring.specs.Bit.{IsRing};
+ghost use Rattle.scan.specs.declared.Scanned.the-variants.{Records};
 ghost use Rattle.scan.specs.Scan.{records, mostRecords};
+ghost use Rattle.scan.specs.BadSymbols.{badSymbol};
 ghost use Rattle.scan.specs.Answers.{scanRefusal};
 ghost use Rattle.scan_rows.specs.Rows.{hasRow, stored, laid, aRow, noRow, refusedRow, rowAt};
 ghost use Rattle.scan_rows.specs.Answers.{scannedInto, rowsAfter, nthRecord};
-ghost use Rattle.scan_rows.specs.Inside.{ofScan};
+ghost use Rattle.scan_rows.specs.Inside.{NextOf, ofScan};
+use scan::BadSymbol;
 use scan::Scanned;
 use scan::SectorRecord;
 
@@ -33,23 +36,55 @@ fn refusal(rows: usize, bytes: usize) -> u8
     ring::refusal_of(bytes)
 }
 
-// The records of one revolution from `start_bit` on, in rows from the first on; the answer is how many there are.
-fn list_rows(ring: &[u8], track: u8, start_bit: usize, rows: &mut [SectorRecord]) -> usize
+// The next record of a scan, if there is one, and the first bad symbol that was met so far.
+struct NextRow {
+    pub found: bool,
+    pub row: SectorRecord,
+    pub bad: BadSymbol,
+}
+
+// The first record at or after scan bit `from` of a scan that ends at `end` and has met `bad` before.
+fn next_row(ring: &[u8], track: u8, end: usize, from: usize, bad: BadSymbol) -> NextRow
+    requires { ⌜ (IsRing (now ring)) × (end ≤ 1048560) ⌝ }
+    ensures { λ r. ⌜ NextOf (now (ring .entry)) track end from bad r ⌝ }
+{
+    let mut payload = [0u8; 256];
+    let met = scan::next_met(ring, track, end, from, &mut payload);
+    let next = met.next;
+    let way = met.bad;
+    let sofar = scan::or_else(bad, way);
+    NextRow {
+        found: next.found,
+        row: scan::a_record(next.sector, next.place, payload),
+        bad: sofar,
+    }
+}
+
+// The records of one revolution from `start_bit` on, in rows from the first on; the answer is how many there are, and the first bad symbol
+// that was met.
+fn list_rows(ring: &[u8], track: u8, start_bit: usize, rows: &mut [SectorRecord]) -> Scanned
     requires { ⌜ (IsRing (now ring)) × (mostRecords ≤ length (now rows)) ⌝ }
-    ensures { λ r. ⌜ (r ≡ length (records (now (ring .entry)) track «start_bit»))
+    ensures { λ r. ⌜ (r ≡ Records (length (records (now (ring .entry)) track «start_bit»))
+        (badSymbol (now (ring .entry)) track «start_bit»))
         × (now (rows .exit) ≡ laid (records (now (ring .entry)) track «start_bit») (now (rows .entry))) ⌝ }
 {
     let bits = 8 * ring.len();
     let start = start_bit % bits;
     let end = start + bits;
-    let mut next = scan::next_record(ring, track, end, start);
+    let mut next = next_row(ring, track, end, start, BadSymbol::NoneMet);
     let mut n: usize = 0;
     while next.found {
         store_row(rows, n, next.row);
         n += 1;
-        next = scan::next_record(ring, track, end, next.row.place + geometry::BLOCK_BITS);
+        next = next_row(
+            ring,
+            track,
+            end,
+            next.row.place + geometry::BLOCK_BITS,
+            next.bad,
+        );
     }
-    n
+    Scanned::Records(n, next.bad)
 }
 
 // The sector records of a ring, one revolution from `start_bit` on, in a lent list of records. Room for the most records is
@@ -65,7 +100,7 @@ pub fn scan_into_rows(
 {
     let number = refusal(rows.len(), ring.len());
     if number == 0 {
-        Scanned::Records(list_rows(ring, track, start_bit, rows))
+        list_rows(ring, track, start_bit, rows)
     } else {
         Scanned::Refused(number)
     }
@@ -122,7 +157,7 @@ fn of_scan(row: Row, n: usize, answer: Scanned) -> Row
     ensures { λ r. ⌜ r ≡ ofScan row n answer ⌝ }
 {
     match answer {
-        Scanned::Records(count) => {
+        Scanned::Records(count, _) => {
             if n < count {
                 return row;
             }

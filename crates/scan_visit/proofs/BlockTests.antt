@@ -15,8 +15,6 @@ use Rattle.geometry.specs.Zones.{sectorsOf}
 use Rattle.geometry.specs.Blocks.{headerSum}
 use Rattle.gcr.specs.Symbols.{Decoded, Bytes, IllegalAt}
 use Rattle.gcr.specs.Places.{decodeAt}
-use Rattle.gcr.specs.Answers.{answer4}
-use Rattle.gcr.specs.declared.Decoded4.{Decoded4}
 use Rattle.gcr.proofs.DecodeLaws.{decode-more, decode-stop}
 use Rattle.ring.specs.Bit.{bits, bitAt}
 use Rattle.gcr_blocks.specs.Answers.{isReadable, bytesIn}
@@ -27,7 +25,8 @@ use Rattle.scan_visit.specs.Visit.{DataFound, BadData, AnotherHeader, Go
 use Rattle.scan_visit.specs.Visit.{HeaderFound, BadHeader, TrueHeader, NoHeader, FalseHeader}
 use Rattle.scan_visit.specs.Visit.{at, payloadIn, byData, headerMark, dataAt, dataFor, trueSum, byHeader, visit}
 use Rattle.scan_visit.specs.Answers.{headerAnswer, DataBlock, aBlock, dataAnswer}
-use Rattle.scan_visit.specs.Inside.{headerBy, withoutPayload}
+use Rattle.scan_visit.specs.declared.Group.{Group}
+use Rattle.scan_visit.specs.Inside.{groupOf, headerBy, withoutPayload}
 use Rattle.scan_visit.proofs.GroupLaws.{longer, at-place, read-bytes, read-illegal}
 
 -- ---- the header at h
@@ -51,25 +50,24 @@ module _ (x : ℕ → ℕ) (track h : ℕ) where
   header-bytes b e = header-any track (BadData NoSync) (dataFor x h) b ∙ sym
       (ap (λ (o : Decoded). headerAnswer (byHeader track (dataFor x h) o)) e)
 
-  pub header-illegal : (k : ℕ) → decodeAt x h 8 ≡ IllegalAt k → Illegal ≡ headerAnswer (visit x track h .found)
+  pub header-illegal : (k : ℕ) → decodeAt x h 8 ≡ IllegalAt k → Illegal k ≡ headerAnswer (visit x track h .found)
   unfolding visit
   header-illegal k e = sym (ap (λ (o : Decoded). headerAnswer (byHeader track (dataFor x h) o)) e)
 
 -- the header at bit s of byte i, by its two groups
-module _ (r : List ℕ) (track h i s : ℕ) (here : 8 * i + s ≡ h % bits r) (g : Decoded4)
-    (e : g ≡ answer4 (decodeAt (bitAt r) (8 * i + s) 4)) where
-  pub first-illegal : g .ok ≡ false → Illegal ≡ headerAnswer (visit (bitAt r) track h .found)
+module _ (r : List ℕ) (track h i s : ℕ) (here : 8 * i + s ≡ h % bits r) (g : Group)
+    (e : g ≡ groupOf (decodeAt (bitAt r) (8 * i + s) 4)) where
+  pub first-illegal : g .ok ≡ false → Illegal (g .symbol) ≡ headerAnswer (visit (bitAt r) track h .found)
   first-illegal t =
-      let f = read-illegal r i s h here g e t in
-      header-illegal (bitAt r) track h (f .0) (longer (bitAt r) h 4 8 (f .0) (lit≤ tt) (f .1))
+      header-illegal (bitAt r) track h (g .symbol) (longer (bitAt r) h 4 8 (g .symbol) (lit≤ tt) (read-illegal r i s h here g e t))
 
-  module _ (t : g .ok ≡ true) (next : ℕ) (there : 8 * next + s ≡ (h + 40) % bits r) (g′ : Decoded4)
-      (e′ : g′ ≡ answer4 (decodeAt (bitAt r) (8 * next + s) 4)) where
-    pub second-illegal : g′ .ok ≡ false → Illegal ≡ headerAnswer (visit (bitAt r) track h .found)
+  module _ (t : g .ok ≡ true) (next : ℕ) (there : 8 * next + s ≡ (h + 40) % bits r) (g′ : Group)
+      (e′ : g′ ≡ groupOf (decodeAt (bitAt r) (8 * next + s) 4)) where
+    pub second-illegal : g′ .ok ≡ false → Illegal (8 + g′ .symbol) ≡ headerAnswer (visit (bitAt r) track h .found)
     second-illegal t′ =
-        let f = read-illegal r next s (h + 40) there g′ e′ t′ in
-        header-illegal (bitAt r) track h (8 + f .0)
-        (decode-stop (bitAt r) h 4 (g .bytes) (read-bytes r i s h here g e t) 4 (f .0) 0 (f .1))
+        header-illegal (bitAt r) track h (8 + g′ .symbol)
+        (decode-stop (bitAt r) h 4 (g .bytes) (read-bytes r i s h here g e t) 4 (g′ .symbol) 0
+        (read-illegal r next s (h + 40) there g′ e′ t′))
 
     pub both-groups : g′ .ok ≡ true → headerBy track (g .bytes ++ g′ .bytes) ≡ headerAnswer (visit (bitAt r) track h .found)
     both-groups t′ =
@@ -123,9 +121,8 @@ module _ (track : ℕ) (a b : List ℕ) (four : length a ≡ 4) where
 
 -- ---- the data block at d, by what its 260 bytes decode to, test by test
 module _ (d : ℕ) where
-  pub block-illegal : (o : Decoded) → isReadable o ≡ false → withoutPayload (IllegalIn d) ≡ dataAnswer (byData d o)
-  block-illegal (IllegalAt k) e = refl
-  block-illegal (Bytes b) e = absurd (let z : _≡_ {A = ℕ} 0 1 = cc in omega arith)
+  pub block-illegal : (o : Decoded) (k : ℕ) → o ≡ IllegalAt k → withoutPayload (IllegalIn d k) ≡ dataAnswer (byData d o)
+  block-illegal o k e = sym (ap (λ (y : Decoded). dataAnswer (byData d y)) e)
 
   module _ (o : Decoded) (e : isReadable o ≡ true) where
     abbrev b : List ℕ
@@ -152,7 +149,7 @@ module _ (d : ℕ) where
 
 module _ (x : ℕ → ℕ) (d : ℕ) where
   -- the marker, in the first group
-  pub data-illegal : (k : ℕ) → decodeAt x d 4 ≡ IllegalAt k → withoutPayload (IllegalIn d) ≡ dataAnswer (dataAt x d)
+  pub data-illegal : (k : ℕ) → decodeAt x d 4 ≡ IllegalAt k → withoutPayload (IllegalIn d k) ≡ dataAnswer (dataAt x d)
   unfolding dataAt
   data-illegal k e =
       sym (ap₂ (λ (u v : Decoded). dataAnswer (pick (headerMark u) (AnotherHeader d) (byData d v))) e (longer x d 4 260 k (lit≤ tt) e))

@@ -33,7 +33,7 @@ module _ (x : ℕ → ℕ) (h : ℕ) where
 
 -- is it a true header
 abbrev pub isSector : HeaderAt → Bool
-isSector Illegal = false
+isSector (Illegal k) = false
 isSector No = false
 isSector (FalseSum s) = false
 isSector (Sector s i j) = true

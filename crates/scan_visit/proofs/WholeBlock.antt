@@ -21,25 +21,20 @@ use Rattle.base.proofs.Lists.{getD-tab}
 use Rattle.base.proofs.Xor.{xorOf-append}
 use Rattle.gcr.specs.Symbols.{Decoded, Bytes, IllegalAt}
 use Rattle.gcr.specs.Places.{decodeAt}
-use Rattle.gcr.specs.Answers.{answer4}
-use Rattle.gcr.specs.declared.Decoded4.{Decoded4}
 use Rattle.gcr.proofs.DecodeLaws.{byteAt, decode-bytes, decode-more, decode-stop}
 use Rattle.gcr_blocks.specs.Answers.{isReadable, bytesIn}
 use Rattle.ring.specs.Bit.{bits, bitAt}
+use Rattle.scan_visit.specs.declared.Group.{Group}
 use Rattle.scan_visit.specs.declared.GroupRun.{GroupRun}
 use Rattle.scan_visit.specs.declared.BlockSums.{BlockSums}
-use Rattle.scan_visit.specs.declared.DataAt.the-variants.{IllegalIn, OtherMark, WrongSum, Good}
+use Rattle.scan_visit.specs.declared.DataAt.the-variants.{OtherMark, WrongSum, Good}
 use Rattle.scan_visit.specs.Visit.{at, payloadIn, byData}
 use Rattle.scan_visit.specs.Answers.{aBlock, dataAnswer}
-use Rattle.scan_visit.specs.Inside.{withoutPayload, GroupsRead, BlockRead}
-use Rattle.scan_visit.proofs.BlockTests.{block-illegal, block-mark, block-sum, block-good}
-use Rattle.scan_visit.proofs.GroupLaws.{length-bytes, at-place, read-bytes, read-illegal, never, xor-alone, xor-three}
+use Rattle.scan_visit.specs.Inside.{groupOf, withoutPayload, GroupsRead, BlockRead}
+use Rattle.scan_visit.proofs.BlockTests.{block-mark, block-sum, block-good}
+use Rattle.scan_visit.proofs.GroupLaws.{length-bytes, at-place, read-bytes, read-illegal, never, readable, xor-alone, xor-three}
 
--- ---- what is readable has bytes, and what is not has an illegal symbol
-readable : (o : Decoded) → isReadable o ≡ true → o ≡ Bytes (bytesIn o)
-readable (Bytes b) e = refl
-readable (IllegalAt k) e = absurd (never e)
-
+-- ---- what is not readable has an illegal symbol
 unreadable : (o : Decoded) → isReadable o ≡ false → (k : ℕ) × (o ≡ IllegalAt k)
 unreadable (Bytes b) e = absurd (never (sym e))
 unreadable (IllegalAt k) e = (k, refl)
@@ -122,7 +117,7 @@ module _ (r : List ℕ) (i s : ℕ) (f : List ℕ) (ef : decodeAt (bitAt r) (8 *
         let u = unreadable (decodeAt x (8 * next + s) 252) (sym (gr .told) ∙ t) in
         refused (8 + u .0) any (decode-stop x p 4 f ef 252 (u .0) 4 (sym middle ∙ u .1))
 
-    module _ (t : run .ok ≡ true) (g : Decoded4) (e : g ≡ answer4 (decodeAt x (8 * run .next + s) 4)) where
+    module _ (t : run .ok ≡ true) (g : Group) (e : g ≡ groupOf (decodeAt x (8 * run .next + s) 4)) where
       abbrev m : List ℕ
       m = bytesIn (decodeAt x (8 * next + s) 252)
 
@@ -139,8 +134,8 @@ module _ (r : List ℕ) (i s : ℕ) (f : List ℕ) (ef : decodeAt (bitAt r) (8 *
 
       pub block-ends : (any : List ℕ) → g .ok ≡ false → BlockRead (decodeAt x p 260) any (record { ok = false; sum = 0; told = 0 })
       block-ends any u =
-          let q = read-illegal r (run .next) s (p + 2560) last-place g e u in
-          refused (512 + q .0) any (decode-stop x p 256 (f ++ m) front 4 (q .0) 0 (q .1))
+          refused (512 + g .symbol) any
+          (decode-stop x p 256 (f ++ m) front 4 (g .symbol) 0 (read-illegal r (run .next) s (p + 2560) last-place g e u))
 
       pub block-done : g .ok ≡ true
           → BlockRead (decodeAt x p 260) (set after 255 (at (g .bytes) 0))
@@ -164,9 +159,6 @@ module _ (r : List ℕ) (i s : ℕ) (f : List ℕ) (ef : decodeAt (bitAt r) (8 *
 -- ---- the ways out of `block_at`
 module _ (d : ℕ) (x : ℕ → ℕ) (p : ℕ) (first : List ℕ) (ef : decodeAt x p 4 ≡ Bytes first) (payload : List ℕ) (sums : BlockSums)
     (br : BlockRead (decodeAt x p 260) payload sums) where
-  pub judged-illegal : sums .ok ≡ false → withoutPayload (IllegalIn d) ≡ dataAnswer (byData d (decodeAt x p 260))
-  judged-illegal t = block-illegal d (decodeAt x p 260) (sym (br .told) ∙ t)
-
   module _ (t : sums .ok ≡ true) where
     all-legal : isReadable (decodeAt x p 260) ≡ true
     all-legal = sym (br .told) ∙ t

@@ -1,4 +1,4 @@
--- What `header_at`, `data_at` and `visit_at` answer: all verdicts of a visit, without the index of a symbol.
+-- What `header_at`, `data_at` and `visit_at` answer: all verdicts of a visit.
 use Prim.Native.Nat.{ℕ}
 use mathlib.Core.List.{List}
 use lib.ListN.{replicate}
@@ -12,7 +12,7 @@ use Rattle.scan_visit.specs.Visit.{HeaderFound, BadHeader, TrueHeader, I
 
 -- what stands at a sync end, without the data search
 abbrev pub headerAnswer : HeaderFound → HeaderAt
-headerAnswer (BadHeader (IllegalHeader k)) = Illegal
+headerAnswer (BadHeader (IllegalHeader k)) = Illegal k
 headerAnswer (BadHeader NoHeader) = No
 headerAnswer (BadHeader (FalseHeader sector)) = FalseSum sector
 headerAnswer (TrueHeader sector id1 id2 found) = Sector sector id1 id2
@@ -28,7 +28,7 @@ aBlock verdict payload = record { verdict = verdict; payload = payload }
 -- what the data search comes to, with the payload of a good block
 abbrev pub dataAnswer : DataFound → DataBlock
 dataAnswer (BadData NoSync) = aBlock Nowhere (replicate 256 0)
-dataAnswer (BadData (IllegalData d k)) = aBlock (IllegalIn d) (replicate 256 0)
+dataAnswer (BadData (IllegalData d k)) = aBlock (IllegalIn d k) (replicate 256 0)
 dataAnswer (BadData (OtherMarker d)) = aBlock (OtherMark d) (replicate 256 0)
 dataAnswer (BadData (FalseData d)) = aBlock (WrongSum d) (replicate 256 0)
 dataAnswer (AnotherHeader d) = aBlock (Another d) (replicate 256 0)

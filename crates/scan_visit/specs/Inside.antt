@@ -1,22 +1,28 @@
 -- What the helpers inside this crate answer and leave.
 use Prim.Native.Nat.{ℕ, _+_, _*_, _%_, _<_}
-use mathlib.Core.Bool.{true}
+use mathlib.Core.Bool.{true, false}
 use mathlib.Core.Path.{_≡_}
 use mathlib.Core.List.{List}
 use lib.Bits.{bitXor}
 use lib.ListN.{length, replicate}
 use lib.Seq.{sets}
 use Rattle.base.specs.Lists.{xorOf}
-use Rattle.gcr.specs.Symbols.{Decoded, Bytes}
+use Rattle.gcr.specs.Symbols.{Decoded, Bytes, IllegalAt}
 use Rattle.gcr.specs.Places.{decodeAt}
 use Rattle.gcr_blocks.specs.Answers.{isReadable, bytesIn}
 use Rattle.ring.specs.Bit.{bits, bitAt}
 use Rattle.scan_visit.specs.declared.HeaderAt.{HeaderAt}
 use Rattle.scan_visit.specs.declared.DataAt.{DataAt}
+use Rattle.scan_visit.specs.declared.Group.{Group}
 use Rattle.scan_visit.specs.declared.GroupRun.{GroupRun}
 use Rattle.scan_visit.specs.declared.BlockSums.{BlockSums}
 use Rattle.scan_visit.specs.Visit.{BadData, NoSync, at, payloadIn, byHeader, byData}
 use Rattle.scan_visit.specs.Answers.{headerAnswer, DataBlock, aBlock, dataAnswer}
+
+-- a group by what its symbols stand for
+unfoldable pub groupOf : Decoded → Group
+groupOf (Bytes xs) = record { ok = true; symbol = 0; bytes = xs }
+groupOf (IllegalAt k) = record { ok = false; symbol = k; bytes = replicate 4 0 }
 
 -- a header by its eight bytes, whatever the data search comes to
 abbrev pub headerBy : ℕ → List ℕ → HeaderAt

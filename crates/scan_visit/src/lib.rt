@@ -1,5 +1,6 @@
 // Blocks where they stand on a ring: a header, a data block, and both as a visit of the scan meets them.
 ghost use mathlib.Core.Path.{_≡_};
+ghost use mathlib.Core.Bool.{false};
 ghost use mathlib.Core.List.{_++_};
 ghost use Prim.Native.Nat.{_+_, _*_, _%_, _^_, _<_, _≤_};
 ghost use lib.Bits.{bitXor};
@@ -8,31 +9,30 @@ ghost use lib.Seq.{sets};
 ghost use Rattle.base.specs.Limits.{longestRing};
 ghost use Rattle.base.specs.Lists.{xorOf};
 ghost use Rattle.geometry.specs.Blocks.{headerBits, blockBits};
-ghost use Rattle.gcr.specs.Symbols.{Bytes};
+ghost use Rattle.gcr.specs.Symbols.{Bytes, IllegalAt};
 ghost use Rattle.gcr.specs.Places.{decodeAt};
-ghost use Rattle.gcr.specs.Answers.{answer4};
+ghost use Rattle.gcr_blocks.specs.Answers.{isReadable};
 ghost use Rattle.ring.specs.Bit.{IsRing, bitAt};
 ghost use Rattle.scan_visit.specs.declared.DataAt.the-variants.{Nowhere};
 ghost use Rattle.scan_visit.specs.Visit.{visit, dataAt, byData, dataFor};
 ghost use Rattle.scan_visit.specs.Answers.{headerAnswer, aBlock, dataAnswer, met, aVisit, visitAnswer};
-ghost use Rattle.scan_visit.specs.Inside.{headerBy, withoutPayload, GroupsRead, BlockRead};
-use gcr::Decoded4;
+ghost use Rattle.scan_visit.specs.Inside.{groupOf, headerBy, withoutPayload, GroupsRead, BlockRead};
 use scan_sync::SyncEnd;
 
-// What stands at a sync end: a symbol outside the table, no header of this track, one with a false checksum, by its sector, or a true one,
-// by its sector and both ids.
+// What stands at a sync end: a symbol outside the table, by the index of the first, no header of this track, one with a false checksum, by
+// its sector, or a true one, by its sector and both ids.
 pub enum HeaderAt {
-    Illegal,
+    Illegal(u8),
     No,
     FalseSum(u8),
     Sector(u8, u8, u8),
 }
 
-// What the data search of a header comes to: no sync end; and at a place a symbol outside the table, a marker that is none, a false
-// checksum, another header, or a good block.
+// What the data search of a header comes to: no sync end; and at a place a symbol outside the table, by the index of the first, a marker
+// that is none, a false checksum, another header, or a good block.
 pub enum DataAt {
     Nowhere,
-    IllegalIn(usize),
+    IllegalIn(usize, usize),
     OtherMark(usize),
     WrongSum(usize),
     Another(usize),
@@ -45,13 +45,26 @@ pub struct Visited {
     pub data: DataAt,
 }
 
+// A group of the ring: are all its symbols in the table, the index of the first that is not, and the four bytes; refused, zeros.
+struct Group {
+    pub ok: bool,
+    pub symbol: u8,
+    pub bytes: [u8; 4],
+}
+
 // The group that begins at bit s of byte i.
-fn group_at(ring: &[u8], i: usize, s: usize) -> Decoded4
+fn group_at(ring: &[u8], i: usize, s: usize) -> Group
     requires { ⌜ IsRing (now ring) ⌝ }
     requires { ⌜ (i < length (now ring)) × (s < 8) ⌝ }
-    ensures { λ r. ⌜ r ≡ answer4 (decodeAt (bitAt (now (ring .entry))) (8 * i + s) 4) ⌝ }
+    ensures { λ r. ⌜ r ≡ groupOf (decodeAt (bitAt (now (ring .entry))) (8 * i + s) 4) ⌝ }
 {
-    gcr::decode_bits(ring::forty_bits(ring, i, s))
+    let four = gcr::decode_bits(ring::forty_bits(ring, i, s));
+    let bytes = four.bytes;
+    Group {
+        ok: four.ok,
+        symbol: four.symbol,
+        bytes: bytes,
+    }
 }
 
 // The byte five bytes after byte i of n, counted round. A ring may be shorter than a group.
@@ -97,11 +110,11 @@ fn header_at(ring: &[u8], track: u8, place: usize) -> HeaderAt
     let s = start % 8;
     let first = group_at(ring, i, s);
     if !first.ok {
-        return HeaderAt::Illegal;
+        return HeaderAt::Illegal(first.symbol);
     }
     let second = group_at(ring, five_on(i, n), s);
     if !second.ok {
-        return HeaderAt::Illegal;
+        return HeaderAt::Illegal(8 + second.symbol);
     }
     let a = first.bytes;
     let b = second.bytes;
@@ -210,6 +223,26 @@ fn read_block(ring: &[u8], i: usize, s: usize, first: [u8; 4], payload: &mut [u8
     }
 }
 
+// The index of the first symbol outside the table in the data block at bit s of byte i, which has one. It is looked for once a block is
+// refused: to count symbols while a good one is read would take time.
+fn first_bad(ring: &[u8], i: usize, s: usize) -> usize
+    requires { ⌜ IsRing (now ring) ⌝ }
+    requires { ⌜ (i < length (now ring)) × (s < 8) ⌝ }
+    requires { ⌜ isReadable (decodeAt (bitAt (now ring)) (8 * i + s) 260) ≡ false ⌝ }
+    ensures { λ r. ⌜ decodeAt (bitAt (now (ring .entry))) (8 * i + s) 260 ≡ IllegalAt r ⌝ }
+{
+    let n = ring.len();
+    let mut at = i;
+    for k in 0..65usize {
+        let g = group_at(ring, at, s);
+        if !g.ok {
+            return 8 * k + g.symbol as usize;
+        }
+        at = five_on(at, n);
+    }
+    0
+}
+
 // The data block of `place`, which is bit s of byte i, whose first group is `first` and has no header's marker. All its symbols are looked
 // at first.
 fn block_at(
@@ -228,7 +261,7 @@ fn block_at(
 {
     let read = read_block(ring, i, s, first, payload);
     if !read.ok {
-        return wiped(payload, DataAt::IllegalIn(place));
+        return wiped(payload, DataAt::IllegalIn(place, first_bad(ring, i, s)));
     }
     if first[0] != 0x07 {
         return wiped(payload, DataAt::OtherMark(place));
@@ -251,7 +284,7 @@ fn data_at(ring: &[u8], place: usize, payload: &mut [u8; 256]) -> DataAt
     let s = start % 8;
     let first = group_at(ring, i, s);
     if !first.ok {
-        return wiped(payload, DataAt::IllegalIn(place));
+        return wiped(payload, DataAt::IllegalIn(place, first.symbol as usize));
     }
     let bytes = first.bytes;
     if bytes[0] == 0x08 {
@@ -292,7 +325,7 @@ pub fn visit_at(ring: &[u8], track: u8, place: usize, payload: &mut [u8; 256]) -
 {
     let header = header_at(ring, track, place);
     match header {
-        HeaderAt::Illegal => no_data(header, payload),
+        HeaderAt::Illegal(_) => no_data(header, payload),
         HeaderAt::No => no_data(header, payload),
         HeaderAt::FalseSum(_) => no_data(header, payload),
         HeaderAt::Sector(_, _, _) => {

@@ -1,12 +1,13 @@
 -- The rules by what the search found: reading, and replacing.
 --     read-refused, read-good         what the code makes of a search is what reading answers
 --     small-found, taken-found        the places found are small, and are those of the copies
+--     refused-met, good-met           reading, with the bad symbol: refused, and not
 --     refused-by, rewritten-by        replacing: refused, and not
 use mathlib.Core.Path.{_≡_, refl, sym, ap, _∙_, subst}
 use mathlib.Core.Logic.{_≢_}
 use mathlib.Core.Bool.{Bool, true, false, not}
 use mathlib.Core.List.{List, [], _∷_, _++_}
-use Prim.Native.Nat.{ℕ, zero, suc, _+_, _-_, _≤_, _<_}
+use Prim.Native.Nat.{ℕ, zero, suc, _≤_, _<_}
 use native.Mathlib.Omega.{arith}
 use lib.Dec.{eqb}
 use lib.ListN.{length, getD, take, drop, length-map}
@@ -19,23 +20,29 @@ use Rattle.base.proofs.Refusing.{unless-some}
 use Rattle.base.proofs.InRow.{sets-front}
 use Rattle.ring.specs.Bit.{IsRing, bits, bitAt}
 use Rattle.scan.specs.declared.SectorRecord.{SectorRecord}
+use Rattle.scan.specs.declared.BadSymbol.{BadSymbol}
+use Rattle.scan.specs.BadSymbols.{badSymbol}
 use Rattle.scan.specs.Scan.{mostRecords}
 use Rattle.scan.proofs.ScanLaws.{Every}
 use Rattle.scan.proofs.Few.{few-records}
 use Rattle.scan.proofs.EachRecord.{each-next}
 use Rattle.base.specs.declared.Sector.{Sector}
+use Rattle.sector.specs.declared.SectorRead.{SectorRead}
 use Rattle.sector.specs.declared.Replaced.the-variants.{Written, Refused}
 use Rattle.sector.specs.declared.Rule.{Rule}
 use Rattle.sector.specs.declared.Rule.the-variants.{Unique, Consistent}
 use Rattle.sector.specs.declared.Tally.{Tally}
 use Rattle.sector.specs.declared.Places.{Places}
-use Rattle.sector.specs.Rules.{recordsIn, recordsFor, allLike, unique, consistent, ruleOf, readBy}
+use Rattle.sector.specs.Rules.{recordsIn, recordsFor, allLike, unique, consistent, ruleOf, readBy, readMet}
 use Rattle.base.specs.Sectors.{good, refused}
 use Rattle.sector.specs.Replacing.{dataBlock, writtenAt, placesIn, replacedBy, answerOf}
 use Rattle.sector.specs.Inside.{Copies, search, firstPayload, tallyOf, placesOf, copiesOf}
-use Rattle.sector.specs.Inside.{isAmbiguous, refusalBy, PlacesFound, SmallPlaces}
+use Rattle.sector.specs.Inside.{isAmbiguous, refusalBy, notRead, PlacesFound, SmallPlaces}
 use Rattle.sector.proofs.SectorLaws.{read-scanned}
 use Rattle.sector.proofs.CopiesLaws.{whole, few-for}
+
+abbrev pub aRead : Sector → BadSymbol → SectorRead
+aRead found bad = record { sector = found; bad = bad }
 
 -- ---- the rules by a search are the rules by the records
 some-not-none : (n : ℕ) → eqb (suc n) 0 ≡ false
@@ -121,7 +128,7 @@ module _ (ring : List ℕ) (track sector : ℕ) (is : IsRing ring) (lent : List 
       ∙ take-at (placesIn found) (drop (length found) lent) (length found) (length-map found (λ r. r .place))
 
   -- the same of what `find_places` tells
-  module _ (rule : Rule) (after : List ℕ) (r : Places) (p : PlacesFound rule lent found after r) where
+  module _ (rule : Rule) (bad : BadSymbol) (after : List ℕ) (r : Places) (p : PlacesFound rule lent found bad after r) where
     pub small-found : SmallPlaces (r .count) after
     small-found =
         subst (λ (n : ℕ). SmallPlaces n after) (sym (p .counted))
@@ -132,24 +139,40 @@ module _ (ring : List ℕ) (track sector : ℕ) (is : IsRing ring) (lent : List 
 
 -- a search and its rule, told
 pub places-told : (rule : Rule) (payload lent : List ℕ) (own : List SectorRecord) (t : Tally) (first after : List ℕ)
-    → search t first after ≡ copiesOf payload lent own → (number : ℕ) → number ≡ refusalBy rule t
-    → PlacesFound rule lent own after (record { number = number; count = t .count })
-places-told rule payload lent own t first after e number n =
+    → search t first after ≡ copiesOf payload lent own → (number : ℕ) → number ≡ refusalBy rule t → (bad whole : BadSymbol) → bad ≡ whole
+    → PlacesFound rule lent own whole after (record { number = number; count = t .count; bad = bad })
+places-told rule payload lent own t first after e number n bad whole m =
     record {
       told = n ∙ ap (λ (y : Copies). refusalBy rule (y .tally)) e;
       counted = ap (λ (y : Copies). y .tally .count) e;
       stored = ap (λ (y : Copies). y .places) e;
+      met = m;
     }
 
--- ---- replacing
-module _ (rule : List SectorRecord → Sector) (ring : List ℕ) (track sector : ℕ) (payload : List ℕ) where
-  pub refused-by : (n : ℕ) → readBy rule ring track sector ≡ refused n
-      → (Refused n ≡ answerOf (readBy rule ring track sector)) × (ring ≡ replacedBy rule track sector payload ring)
-  unfolding answerOf replacedBy
-  refused-by n e = (rw e, rw e)
+-- ---- with the bad symbol: reading, and replacing
+module _ (rule : List SectorRecord → Sector) (ring : List ℕ) (track sector : ℕ) where
+  pub refused-met : (n : ℕ) → readBy rule ring track sector ≡ refused n → notRead n ≡ readMet rule ring track sector
+  unfolding readMet
+  refused-met n e = rw e
 
-  pub rewritten-by : (bytes : List ℕ) → readBy rule ring track sector ≡ good bytes → (places after : List ℕ)
-      → places ≡ placesIn (recordsFor sector (recordsIn ring track)) → after ≡ writtenAt places (dataBlock payload) ring
-      → (Written ≡ answerOf (readBy rule ring track sector)) × (after ≡ replacedBy rule track sector payload ring)
-  unfolding answerOf replacedBy
-  rewritten-by bytes e places after p q = (rw e, q ∙ rw (p, e))
+  pub good-met : (bytes : List ℕ) → readBy rule ring track sector ≡ good bytes → (bad : BadSymbol) → bad ≡ badSymbol ring track 0
+      → aRead (good bytes) bad ≡ readMet rule ring track sector
+  unfolding readMet
+  good-met bytes e bad m = rw (e, m)
+
+  pub sector-met : readMet rule ring track sector .sector ≡ readBy rule ring track sector
+  unfolding readMet
+  sector-met = refl
+
+  module _ (payload : List ℕ) where
+    pub refused-by : (n : ℕ) → readBy rule ring track sector ≡ refused n
+        → (Refused n ≡ answerOf (readMet rule ring track sector)) × (ring ≡ replacedBy rule track sector payload ring)
+    unfolding answerOf readMet replacedBy
+    refused-by n e = (rw e, rw e)
+
+    pub rewritten-by : (bytes : List ℕ) → readBy rule ring track sector ≡ good bytes → (places after : List ℕ) (bad : BadSymbol)
+        → places ≡ placesIn (recordsFor sector (recordsIn ring track)) → after ≡ writtenAt places (dataBlock payload) ring
+        → bad ≡ badSymbol ring track 0
+        → (Written bad ≡ answerOf (readMet rule ring track sector)) × (after ≡ replacedBy rule track sector payload ring)
+    unfolding answerOf readMet replacedBy
+    rewritten-by bytes e places after bad p q m = (rw (e, m), q ∙ rw (p, e))

@@ -9,7 +9,11 @@ use lib.Seq.{sets}
 use Rattle.base.specs.Choice.{pick}
 use Rattle.base.specs.Refusals.{noRecord, ambiguous, _when_, refusal}
 use Rattle.base.specs.Bytes.{sameBytes}
+use Rattle.base.specs.Sectors.{refused}
 use Rattle.scan.specs.declared.SectorRecord.{SectorRecord}
+use Rattle.scan.specs.declared.BadSymbol.{BadSymbol}
+use Rattle.scan.specs.declared.BadSymbol.the-variants.{NoneMet}
+use Rattle.sector.specs.declared.SectorRead.{SectorRead}
 use Rattle.sector.specs.declared.Rule.{Rule}
 use Rattle.sector.specs.declared.Rule.the-variants.{Unique, Consistent}
 use Rattle.sector.specs.declared.Tally.{Tally}
@@ -67,6 +71,10 @@ unfoldable pub withRecord : ℕ → Copies → SectorRecord → Copies
 withRecord sector seen r = pick (eqb (r .sector) sector) (withCopy seen r) seen
 
 -- ---- what a rule makes of a search
+-- a sector that is refused, and no bad symbol
+abbrev pub notRead : ℕ → SectorRead
+notRead number = record { sector = refused number; bad = NoneMet }
+
 abbrev pub isAmbiguous : Rule → Tally → Bool
 isAmbiguous Unique found = ltb 1 (found .count)
 isAmbiguous Consistent found = not (found .equal)
@@ -74,11 +82,13 @@ isAmbiguous Consistent found = not (found .equal)
 unfoldable pub refusalBy : Rule → Tally → ℕ
 refusalBy rule found = refusal (noRecord when eqb (found .count) 0 ∷ ambiguous when isAmbiguous rule found ∷ [])
 
--- the copies of a sector by a rule: its refusal, how many there are, and where
-pub record PlacesFound (rule : Rule) (lent : List ℕ) (own : List SectorRecord) (after : List ℕ) (r : Places) : Type 0 where
+-- the copies of a sector by a rule: its refusal, how many there are, and where; and the bad symbol
+pub record PlacesFound (rule : Rule) (lent : List ℕ) (own : List SectorRecord) (bad : BadSymbol) (after : List ℕ) (r : Places)
+    : Type 0 where
   pub told : r .number ≡ refusalBy rule (tallyOf own)
   pub counted : r .count ≡ length own
   pub stored : after ≡ placesOf lent own
+  pub met : r .bad ≡ bad
 
 -- the first `count` of these places, which the list has, are so small that a block at them does not run out of numbers
 pub record SmallPlaces (count : ℕ) (places : List ℕ) : Type 0 where

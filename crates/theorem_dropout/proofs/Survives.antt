@@ -25,6 +25,7 @@ use Rattle.track_build.proofs.Stored.{length-built, written}
 use Rattle.track_read.specs.Reading.{readPayloads, readStatuses, standing}
 use Rattle.track_read.specs.Answers.{trackRead, trackPayloads, trackStatuses}
 use Rattle.track_read.specs.declared.TrackRead.{TrackRead}
+use Rattle.scan.specs.BadSymbols.{badSymbol}
 use Rattle.track_read.specs.declared.TrackRead.the-variants.{Found, Refused}
 use Rattle.track_read.proofs.ReadingLaws.{stands}
 use Rattle.track_read.proofs.Refusing.{read-goes}
@@ -41,7 +42,7 @@ module _ (d : Dropout) (ring out statuses : List ℕ) where
     damage-left = rw e;
     payloads-left = rw e;
     statuses-left = rw e;
-    demand-3 = λ n f j l. absurd (let z : _≡_ {A = ℕ} 0 1 = cc in omega arith);
+    demand-3 = λ n bad f j l. absurd (let z : _≡_ {A = ℕ} 0 1 = cc in omega arith);
   }
 
   pub sum-wrong : length (d .payloads) % 256 ≢ 0 → ReadAfterDropout d ring out statuses ring out statuses (Refused wrongSum)
@@ -102,7 +103,7 @@ module _ (d : Dropout) (ring out statuses : List ℕ) where
             ∙ sym (done whole (d .place) (d .long) 0
             (sym (no-refusal whole (ring-kept (long ∙ sym (damaged-length d ok)) (never-refused d ok)))) (damaged d) refl refl .1)
 
-        read-is : (Found (countOf 1 (readStatuses (damaged d) (d .track) (d .start)))
+        read-is : (Found (countOf 1 (readStatuses (damaged d) (d .track) (d .start))) (badSymbol (damaged d) (d .track) (d .start))
             ≡ trackRead (damaged d) (d .track) (d .start) out statuses)
             × (readPayloads (damaged d) (d .track) (d .start) ++ drop (256 * sectorsOf (d .track)) out
             ≡ trackPayloads (damaged d) (d .track) (d .start) out statuses)
@@ -110,7 +111,7 @@ module _ (d : Dropout) (ring out statuses : List ℕ) where
             ≡ trackStatuses (damaged d) (d .track) (d .start) out statuses)
         read-is =
             read-goes (damaged d) (d .track) (d .start) out statuses ho hs (never-refused d ok) _ _ _
-            (record { count = refl; laid = refl; told = refl })
+            (record { answer = refl; laid = refl; told = refl })
 
         pub three-calls : (k : ℕ) (part p q ps ss : List ℕ) (r : TrackRead) → k ≡ capacityOf (d .track) → length part ≡ k
             → p ≡ builtAfter (d .track) (d .payloads) (d .codes) (d .id1) (d .id2) part → q ≡ forcedAfter p (d .place) (d .long)
@@ -130,7 +131,7 @@ module _ (d : Dropout) (ring out statuses : List ℕ) where
               damage-left = ap₂ (λ (y : List ℕ) (n : ℕ). y ++ drop n ring) m g ∙ rw taken;
               payloads-left = lp ∙ rw taken;
               statuses-left = ls ∙ rw taken;
-              demand-3 = λ n u j v.
+              demand-3 = λ n bad u j v.
                   subst (Demand3 d j) (stands (damaged d) (d .track) (d .start) _ _ j v
                   ∙ ap₂ (λ (x y : List ℕ). standing x y j) (sym lp) (sym ls)) (demand-3 d ok j v);
             }

@@ -8,6 +8,8 @@ use lib.ListN.{length, drop}
 use Rattle.base.specs.Lists.{countOf}
 use Rattle.base.specs.Refusals.{noRoom, wrongSum, _when_, refusal, unless}
 use Rattle.geometry.specs.Zones.{sectorsOf, capacityOf}
+use Rattle.scan.specs.declared.BadSymbol.{BadSymbol}
+use Rattle.scan.specs.BadSymbols.{badSymbol}
 use Rattle.track_read.specs.Reading.{readPayloads, readStatuses, standing}
 use Rattle.track_read.specs.declared.TrackRead.{TrackRead}
 use Rattle.track_read.specs.declared.TrackRead.the-variants.{Found, Refused}
@@ -35,10 +37,11 @@ dropoutRefusal d ring out statuses =
     ∷ noRoom when ltb (length statuses) (sectorsOf (d .track))
     ∷ [])
 
--- the answer: how many sectors are given, or the refusal's number
+-- the answer: how many sectors are given and the bad symbol, or the refusal's number
 unfoldable pub answer : Dropout → List ℕ → List ℕ → List ℕ → TrackRead
 answer d ring out statuses =
-    unless (dropoutRefusal d ring out statuses) Refused (Found (countOf 1 (readStatuses (damaged d) (d .track) (d .start))))
+    unless (dropoutRefusal d ring out statuses) Refused
+    (Found (countOf 1 (readStatuses (damaged d) (d .track) (d .start))) (badSymbol (damaged d) (d .track) (d .start)))
 
 -- the damaged track, the payloads and the statuses stand in front of what was lent; refused, all is as it came
 unfoldable pub ringAfter : Dropout → List ℕ → List ℕ → List ℕ → List ℕ
@@ -60,4 +63,4 @@ pub record ReadAfterDropout (d : Dropout) (ring out statuses ring′ out′ stat
   pub damage-left : ring′ ≡ ringAfter d ring out statuses
   pub payloads-left : out′ ≡ outAfter d ring out statuses
   pub statuses-left : statuses′ ≡ statusesAfter d ring out statuses
-  pub demand-3 : (n : ℕ) → r ≡ Found n → (j : ℕ) → j < sectorsOf (d .track) → Demand3 d j (standing out′ statuses′ j)
+  pub demand-3 : (n : ℕ) (bad : BadSymbol) → r ≡ Found n bad → (j : ℕ) → j < sectorsOf (d .track) → Demand3 d j (standing out′ statuses′ j)

@@ -93,14 +93,19 @@ fn data_bytes(code: u8, payload: &[u8]) -> [u8; 260]
     block
 }
 
-// The data block of a payload, stored from `at` on: marker, payload, checksum, two zeros, in 65 groups.
+// The data block of a payload, stored from `at` on: marker, payload, checksum, two zeros, in 65 groups. The groups in the middle are coded
+// off the payload, so that no copy of the block's bytes takes room on the stack.
 pub fn put_data_block(out: &mut [u8], at: usize, code: u8, payload: &[u8])
     requires { ⌜ at + 325 ≤ length (now out) ⌝ }
     requires { ⌜ length (now payload) ≡ 256 ⌝ }
     ensures { λ r. ⌜ now (out .exit) ≡ sets (now (out .entry)) at (encode 65 (dataBytes code (now (payload .entry)))) ⌝ }
 {
-    let block = data_bytes(code, payload);
-    gcr_blocks::encode_block(out, at, &block);
+    let sum = inverted_if(code == 0x05, base::xor_of(payload));
+    let first = [marker(code), payload[0], payload[1], payload[2]];
+    let last = [payload[255], sum, 0, 0];
+    gcr_blocks::encode_groups(out, at, &first, 1);
+    gcr_blocks::encode_groups(out, at + 5, &payload[3..255], 63);
+    gcr_blocks::encode_groups(out, at + 320, &last, 1);
 }
 
 // The bytes of a block of n groups, with sync before and a gap after it, stored from `at` on.

@@ -25,7 +25,11 @@ use Rattle.scan_visit.specs.Visit.{Visit, visit}
 use Rattle.scan_visit.specs.Answers.{visitAnswer}
 use Rattle.scan.specs.Scan.{visits, visitsOf, recordsOf}
 use Rattle.scan.proofs.Passing.{endOf}
+use Rattle.scan.specs.declared.BadSymbol.{BadSymbol}
+use Rattle.scan.specs.BadSymbols.{badSymbol}
 use Rattle.track_read.specs.declared.Saying.{Saying}
+use Rattle.track_read.specs.declared.TrackRead.{TrackRead}
+use Rattle.track_read.specs.declared.TrackRead.the-variants.{Found}
 use Rattle.track_read.specs.Reading.{Handed, Given, firstOf, bytesGiven, readPayloads, readStatuses}
 use Rattle.track_read.specs.Statuses.{statusBy, statusIn}
 use Rattle.track_read.specs.Inside.{isNew, Heard, ReadInto, weigh}
@@ -257,9 +261,10 @@ module _ {ring : List ℕ} {track start : ℕ} {payloads₀ statuses₀ payloads
   all-heard : visits x track (endOf ring start) bit ≡ [] → i .done ≡ visitsOf ring track start
   all-heard e = sym (append-nil (i .done)) ∙ ap (λ (l : List Visit). i .done ++ l) (sym e) ∙ i .rest
 
-  pub hear-ends : visits x track (endOf ring start) bit ≡ [] → bit ≢ start % bits ring
-      → ReadInto ring track start payloads₀ statuses₀ payloads statuses n
-  hear-ends e m = by (i .moved)
+  pub hear-ends : (bad : BadSymbol) → bad ≡ badSymbol ring track start
+      → visits x track (endOf ring start) bit ≡ [] → bit ≢ start % bits ring
+      → ReadInto ring track start payloads₀ statuses₀ payloads statuses (Found n bad)
+  hear-ends bad is e m = by (i .moved)
     where
       some : (v : Visit) (vs : List Visit) → visitsOf ring track start ≡ v ∷ vs → (j : ℕ)
           → heardBy (visitsOf ring track start) j ≡ statusIn j (visitsOf ring track start)
@@ -267,7 +272,7 @@ module _ {ring : List ℕ} {track start : ℕ} {payloads₀ statuses₀ payloads
           ap (λ (l : List Visit). heardBy l j) q ∙ sym (ap (λ (l : List Visit). statusIn j l) q)
 
       by : Moved ring start bit (i .done)
-          → ReadInto ring track start payloads₀ statuses₀ payloads statuses n
+          → ReadInto ring track start payloads₀ statuses₀ payloads statuses (Found n bad)
       by (inr (none, b)) = absurd (m b)
       by (inl (l, (v, (vs, d)))) =
           let q = all-heard e in
@@ -275,18 +280,19 @@ module _ {ring : List ℕ} {track start : ℕ} {payloads₀ statuses₀ payloads
           tab-same N (heardBy (i .done)) (λ j. statusIn j (visitsOf ring track start))
           (λ j b. ap (λ (l : List Visit). heardBy l j) q ∙ some v vs (sym q ∙ d) j) in
           record {
-            count = i .count ∙ ap (countOf 1) t;
+            answer = ap₂ Found (i .count ∙ ap (countOf 1) t) is;
             laid = i .laid ∙ ap (λ (l : List Visit). joined N (payloadBy l) ++ drop (256 * N) payloads₀) q;
             told = i .told ∙ ap (λ (y : List ℕ). y ++ drop N statuses₀) t;
           }
 
   -- no visit was made: no sync end was met
-  pub hear-silent : visits x track (endOf ring start) bit ≡ [] → bit ≡ start % bits ring → (ss : List ℕ) → sectorsOf track ≤ length statuses
-      → ss ≡ sets statuses 0 (replicate (sectorsOf track) 3) → ReadInto ring track start payloads₀ statuses₀ payloads ss n
-  hear-silent e m ss room put = by (i .moved)
+  pub hear-silent : (bad : BadSymbol) → bad ≡ badSymbol ring track start
+      → visits x track (endOf ring start) bit ≡ [] → bit ≡ start % bits ring → (ss : List ℕ) → sectorsOf track ≤ length statuses
+      → ss ≡ sets statuses 0 (replicate (sectorsOf track) 3) → ReadInto ring track start payloads₀ statuses₀ payloads ss (Found n bad)
+  hear-silent bad is e m ss room put = by (i .moved)
     where
       by : Moved ring start bit (i .done)
-          → ReadInto ring track start payloads₀ statuses₀ payloads ss n
+          → ReadInto ring track start payloads₀ statuses₀ payloads ss (Found n bad)
       by (inl (l, some)) = absurd (omega arith)
       by (inr (none, b)) =
           let q : visitsOf ring track start ≡ [] = sym (all-heard e) ∙ none in
@@ -296,8 +302,8 @@ module _ {ring : List ℕ} {track start : ℕ} {payloads₀ statuses₀ payloads
           let twos : tab N f ≡ replicate N 2 =
           tab-same N f (λ j. 2) (λ j b. ap (λ (l : List Visit). heardBy l j) none) ∙ sym (tab-filled N 2) in
           record {
-            count = i .count ∙ ap (countOf 1) twos ∙ count-none 1 2 N (λ z. omega arith)
-                ∙ sym (ap (countOf 1) (sym threes) ∙ count-none 1 3 N (λ z. omega arith));
+            answer = ap₂ Found (i .count ∙ ap (countOf 1) twos ∙ count-none 1 2 N (λ z. omega arith)
+                ∙ sym (ap (countOf 1) (sym threes) ∙ count-none 1 3 N (λ z. omega arith))) is;
             laid = i .laid ∙ ap (λ (l : List Visit). joined N (payloadBy l) ++ drop (256 * N) payloads₀) (all-heard e);
             told = put ∙ sets-front (replicate N 3) statuses N (length-replicate {A = ℕ} N 3) room
                 ∙ ap₂ (λ (a c : List ℕ). a ++ c) threes
@@ -349,11 +355,11 @@ module _ {track : ℕ} {payloads statuses payloads₁ statuses₁ : List ℕ} (b
       }
 
   -- what is read after blanking, said of what was lent
-  pub as-lent : (ring : List ℕ) (start n : ℕ) (ps ss : List ℕ) → ReadInto ring track start payloads₁ statuses₁ ps ss n → ReadInto ring
-      track start payloads statuses ps ss n
-  as-lent ring start n ps ss o =
+  pub as-lent : (ring : List ℕ) (start : ℕ) (r : TrackRead) (ps ss : List ℕ) → ReadInto ring track start payloads₁ statuses₁ ps ss r
+      → ReadInto ring track start payloads statuses ps ss r
+  as-lent ring start r ps ss o =
       record {
-        count = o .count;
+        answer = o .answer;
         laid = o .laid ∙ ap (λ (l : List ℕ). readPayloads ring track start ++ l) rest-kept;
         told = o .told ∙ ap (λ (l : List ℕ). readStatuses ring track start ++ l) more-kept;
       }

@@ -1,6 +1,6 @@
 -- The refusals of reading a track, test by test.
 use Prim.Native.Nat.{ℕ, _*_, _≤_, _<_}
-use mathlib.Core.Path.{_≡_, sym, ap}
+use mathlib.Core.Path.{_≡_, sym}
 use mathlib.Core.Logic.{_≢_, _⊎_}
 use mathlib.Core.Bool.{true}
 use mathlib.Core.List.{List}
@@ -11,7 +11,7 @@ use Rattle.ring.specs.Bit.{IsRing, ringRefusal}
 use Rattle.track_read.specs.Answers.{roomToRead, readRefusal, trackRead, trackPayloads, trackStatuses}
 use Rattle.track_read.specs.Inside.{ReadInto}
 use Rattle.track_read.specs.declared.TrackRead.{TrackRead}
-use Rattle.track_read.specs.declared.TrackRead.the-variants.{Found, Refused as NotRead}
+use Rattle.track_read.specs.declared.TrackRead.the-variants.{Refused as NotRead}
 use Rattle.geometry.specs.Zones.{sectorsOf}
 use Rattle.scan.proofs.Refusing.{room, short, no-ring, is-taken}
 
@@ -40,7 +40,6 @@ module _ (ring : List ℕ) (track start : ℕ) (payloads statuses : List ℕ) wh
     pub none-refused : IsRing ring → readRefusal ring track payloads statuses ≡ 0
     none-refused l = is-taken (roomToRead track payloads statuses) roomy ring l
 
-    pub read-goes : IsRing ring → (n : ℕ) (ps ss : List ℕ) → ReadInto ring track start payloads statuses ps ss n → ReadOut (Found n) ps ss
+    pub read-goes : IsRing ring → (r : TrackRead) (ps ss : List ℕ) → ReadInto ring track start payloads statuses ps ss r → ReadOut r ps ss
     unfolding trackRead trackPayloads trackStatuses
-    read-goes l n ps ss o =
-        let e = none-refused l in (rw e (ap Found (o .count)), rw e (o .laid), rw e (o .told))
+    read-goes l r ps ss o = let e = none-refused l in (rw e (o .answer), rw e (o .laid), rw e (o .told))

@@ -10,11 +10,12 @@ use Rattle.geometry.specs.Zones.{sectorsOf}
 use Rattle.ring.specs.Bit.{ringRefusal}
 use Rattle.track_read.specs.declared.TrackRead.{TrackRead}
 use Rattle.track_read.specs.declared.TrackRead.the-variants.{Found, Refused as NotRead}
+use Rattle.scan.specs.BadSymbols.{badSymbol}
 use Rattle.scan.specs.Answers.{scanRefusal}
 use Rattle.track_read.specs.Reading.{readPayloads, readStatuses}
 
--- ---- `decode_track_from` needs room for all sectors of the track: it answers how many were given, and leaves payloads and
--- statuses in front of what was lent
+-- ---- `decode_track_from` needs room for all sectors of the track: it answers how many were given and the bad
+-- symbol, and leaves payloads and statuses in front of what was lent
 abbrev pub roomToRead : ℕ → List ℕ → List ℕ → Bool
 roomToRead track payloads statuses =
     leb (256 * sectorsOf track) (length payloads) && leb (sectorsOf track) (length statuses)
@@ -26,7 +27,7 @@ readRefusal ring track payloads statuses = scanRefusal (roomToRead track payload
 unfoldable pub trackRead : List ℕ → ℕ → ℕ → List ℕ → List ℕ → TrackRead
 trackRead ring track start payloads statuses =
     unless (readRefusal ring track payloads statuses) NotRead
-    (Found (countOf 1 (readStatuses ring track start)))
+    (Found (countOf 1 (readStatuses ring track start)) (badSymbol ring track start))
 
 unfoldable pub trackPayloads : List ℕ → ℕ → ℕ → List ℕ → List ℕ → List ℕ
 trackPayloads ring track start payloads statuses =

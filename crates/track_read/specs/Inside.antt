@@ -13,14 +13,17 @@ use Rattle.scan_visit.specs.declared.HeaderAt.{HeaderAt}
 use Rattle.scan_visit.specs.declared.HeaderAt.the-variants.{Illegal, No, FalseSum, Sector}
 use Rattle.scan_visit.specs.declared.DataAt.{DataAt}
 use Rattle.scan_visit.specs.declared.DataAt.the-variants.{Nowhere, IllegalIn, OtherMark, WrongSum, Another, Good}
+use Rattle.scan.specs.BadSymbols.{badSymbol}
 use Rattle.track_read.specs.declared.Saying.{Saying}
+use Rattle.track_read.specs.declared.TrackRead.{TrackRead}
+use Rattle.track_read.specs.declared.TrackRead.the-variants.{Found}
 use Rattle.track_read.specs.Statuses.{given, noHeader, noData, falseData, falseHeader}
 use Rattle.track_read.specs.Reading.{readPayloads, readStatuses}
 
 -- what a true header says of its sector, by the verdict on its data
 abbrev pub numberOf : DataAt → ℕ
 numberOf Nowhere = noData
-numberOf (IllegalIn d) = noData
+numberOf (IllegalIn d k) = noData
 numberOf (OtherMark d) = noData
 numberOf (WrongSum d) = falseData
 numberOf (Another d) = noData
@@ -31,7 +34,7 @@ abbrev pub saying : ℕ → ℕ → Saying
 saying sector number = record { sector = sector; number = number }
 
 abbrev pub saidMet : HeaderAt → DataAt → Saying
-saidMet Illegal verdict = saying 0 noHeader
+saidMet (Illegal k) verdict = saying 0 noHeader
 saidMet No verdict = saying 0 noHeader
 saidMet (FalseSum sector) verdict = saying sector falseHeader
 saidMet (Sector sector id1 id2) verdict = saying sector (numberOf verdict)
@@ -57,7 +60,8 @@ pub record Heard (count : ℕ) (said : Saying) (payload payloads statuses payloa
       ≡ pick (ltb (said .sector) count) (set statuses (said .sector) (weigh (getD statuses (said .sector) 0) (said .number))) statuses
 
 -- a track read: payloads and statuses of its sectors in front, spare room kept
-pub record ReadInto (ring : List ℕ) (track start : ℕ) (payloads statuses payloadsAfter statusesAfter : List ℕ) (r : ℕ) : Type 0 where
-  pub count : r ≡ countOf 1 (readStatuses ring track start)
+pub record ReadInto (ring : List ℕ) (track start : ℕ) (payloads statuses payloadsAfter statusesAfter : List ℕ) (r : TrackRead)
+    : Type 0 where
+  pub answer : r ≡ Found (countOf 1 (readStatuses ring track start)) (badSymbol ring track start)
   pub laid : payloadsAfter ≡ readPayloads ring track start ++ drop (256 * sectorsOf track) payloads
   pub told : statusesAfter ≡ readStatuses ring track start ++ drop (sectorsOf track) statuses

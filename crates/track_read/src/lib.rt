@@ -9,13 +9,14 @@ ghost use Rattle.ring.specs.Bit.{IsRing};
 ghost use Rattle.track_read.specs.Answers.{trackRead, trackPayloads, trackStatuses, ringStatuses};
 ghost use Rattle.track_read.specs.Statuses.{noData, falseData};
 ghost use Rattle.track_read.specs.Inside.{numberOf, saying, saidMet, weigh, Heard, ReadInto};
+use scan::BadSymbol;
 use scan_visit::DataAt;
 use scan_visit::HeaderAt;
 use scan_visit::Visited;
 
-// What reading a track answers: the number of sectors found, or a refusal number.
+// What reading a track answers: the number of sectors found and the first bad symbol that was met, or a refusal number.
 pub enum TrackRead {
-    Found(usize),
+    Found(usize, BadSymbol),
     Refused(u8),
 }
 
@@ -44,7 +45,7 @@ fn number_of(verdict: DataAt) -> u8
 {
     match verdict {
         DataAt::Nowhere => NO_DATA,
-        DataAt::IllegalIn(_) => NO_DATA,
+        DataAt::IllegalIn(_, _) => NO_DATA,
         DataAt::OtherMark(_) => NO_DATA,
         DataAt::WrongSum(_) => FALSE_DATA,
         DataAt::Another(_) => NO_DATA,
@@ -68,7 +69,7 @@ fn said_by(met: Visited) -> Saying
     let header = met.header;
     let verdict = met.data;
     match header {
-        HeaderAt::Illegal => a_saying(0, NO_HEADER),
+        HeaderAt::Illegal(_) => a_saying(0, NO_HEADER),
         HeaderAt::No => a_saying(0, NO_HEADER),
         HeaderAt::FalseSum(sector) => a_saying(sector, FALSE_HEADER),
         HeaderAt::Sector(sector, _, _) => a_saying(sector, number_of(verdict)),
@@ -139,14 +140,15 @@ fn hear(
     1
 }
 
-// The first record of each sector handed out, and of the others why they are missing; the answer is how many sectors have one.
+// The first record of each sector handed out, and of the others why they are missing; the answer is how many sectors have one, and the
+// first bad symbol.
 fn read_visits(
     ring: &[u8],
     track: u8,
     start_bit: usize,
     payloads: &mut [u8],
     statuses: &mut [u8],
-) -> usize
+) -> TrackRead
     requires { ⌜ IsRing (now ring) ⌝ }
     requires { ⌜ (256 * sectorsOf track ≤ length (now payloads)) × (sectorsOf track ≤ length (now statuses)) ⌝ }
     ensures { λ r. ⌜ ReadInto (now (ring .entry)) track «start_bit» (now (payloads .entry)) (now (statuses .entry))
@@ -161,6 +163,7 @@ fn read_visits(
     let mut payload = [0u8; 256];
     let mut bit = start;
     let mut n: usize = 0;
+    let mut bad = BadSymbol::NoneMet;
     loop {
         let next = scan::next_visit(ring, track, end, bit, &mut payload);
         if !next.found {
@@ -169,6 +172,7 @@ fn read_visits(
         let met = next.met;
         let said = said_by(met);
         n += hear(payloads, statuses, count, said, &payload);
+        bad = scan::or_else(bad, scan::bad_in(met, next.place, bits));
         let verdict = met.data;
         bit = scan::next_bit(next.place, verdict);
     }
@@ -176,7 +180,7 @@ fn read_visits(
     if bit == start {
         base::fill(statuses, 0, count, NO_SYNC);
     }
-    n
+    TrackRead::Found(n, bad)
 }
 
 // The payloads of a track's sectors, each by its first record, and the status list beside them: 1 for a sector handed
@@ -203,7 +207,7 @@ pub fn decode_track_from(
     if number != 0 {
         return TrackRead::Refused(number);
     }
-    TrackRead::Found(read_visits(ring, track, start_bit, payloads, statuses))
+    read_visits(ring, track, start_bit, payloads, statuses)
 }
 
 // The statuses of a ring's sectors. A ring that cannot be read is refused, which leaves the zeros.

@@ -1,5 +1,5 @@
 use mathlib.Core.Path.{ap, _∙_}
-use Rattle.c_tracks.specs.Numbers.{trackNumber, foundAfter}
+use Rattle.c_tracks.specs.Numbers.{trackNumber, foundAfter, badFound, badBlock, badIndex, badBit}
 use borrow.Author.Needs.{needs}
 use Rattle.c_tracks.proofs.fielbmaru_decode_track.Statement.{statement}
 use Rattle.c_tracks.proofs.fielbmaru_decode_track.Tie as tie
@@ -18,12 +18,13 @@ same-length-2 c = search needs
 
 returns : tie.Need-returns
 returns c =
-    let k = c .before .before .before .before .before .before in (
+    let k = c .before .before .before .before .before .before .before .before .before .decode-track-from .ensures in
+    let t = c .tell-found .ensures in (
+      (t .0 ∙ ap trackNumber (k .0), t .1 ∙ ap (foundAfter _) (k .0)),
       (
-        c .tell-found .ensures .0 ∙ ap trackNumber (k .decode-track-from .ensures .0),
-        c .tell-found .ensures .1 ∙ ap (foundAfter _) (k .decode-track-from .ensures .0),
+        (k .1, k .2),
+        (t .2 ∙ ap (badFound badBlock _) (k .0), t .3 ∙ ap (badFound badIndex _) (k .0), t .4 ∙ ap (badFound badBit _) (k .0)),
       ),
-      (k .decode-track-from .ensures .1, k .decode-track-from .ensures .2),
     )
 
 pub fielbmaru-decode-track-spec : {M : Type 1} → statement M

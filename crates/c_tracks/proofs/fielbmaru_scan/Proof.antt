@@ -1,5 +1,5 @@
 use mathlib.Core.Path.{ap, _∙_}
-use Rattle.c_tracks.specs.Numbers.{scannedNumber, countAfter}
+use Rattle.c_tracks.specs.Numbers.{scannedNumber, countAfter, badAfter, badBlock, badIndex, badBit}
 use borrow.Author.Needs.{needs}
 use Rattle.c_tracks.proofs.fielbmaru_scan.Statement.{statement}
 use Rattle.c_tracks.proofs.fielbmaru_scan.Tie as tie
@@ -18,12 +18,13 @@ same-length-2 c = search needs
 
 returns : tie.Need-returns
 returns c =
-    let k = c .before .before .before .before .before .before in (
+    let k = c .before .before .before .before .before .before .before .before .before .scan-sector-records .ensures in
+    let t = c .tell-scanned .ensures in (
+      (t .0 ∙ ap scannedNumber (k .0), t .1 ∙ ap (countAfter _) (k .0)),
       (
-        c .tell-scanned .ensures .0 ∙ ap scannedNumber (k .scan-sector-records .ensures .0),
-        c .tell-scanned .ensures .1 ∙ ap (countAfter _) (k .scan-sector-records .ensures .0),
+        (k .1, k .2),
+        (t .2 ∙ ap (badAfter badBlock _) (k .0), t .3 ∙ ap (badAfter badIndex _) (k .0), t .4 ∙ ap (badAfter badBit _) (k .0)),
       ),
-      (k .scan-sector-records .ensures .1, k .scan-sector-records .ensures .2),
     )
 
 pub fielbmaru-scan-spec : {M : Type 1} → statement M

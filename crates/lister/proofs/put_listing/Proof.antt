@@ -1,26 +1,19 @@
+use mathlib.Core.Path.{sym, ap, _∙_}
 use native.Mathlib.Omega.{arith}
+use lib.ListN.{length}
+use Rattle.lister.specs.Listing.{listing}
+use Rattle.lister.proofs.Envelopes.{Good, is-good, rest-is}
+use Rattle.lister.proofs.Answer.{refused-listing, ring-listing, put-same}
 use borrow.Author.Needs.{needs}
-use Rattle.base.specs.Refusals.{ringEmpty, ringTooLong, wrongImage}
-use Rattle.lister.specs.Listing.{refusalLine, listing}
-use Rattle.lister.proofs.Answer.{wrong-listing, empty-listing, long-listing, ring-listing, rest-is, header-there, put-same}
 use Rattle.lister.proofs.put_listing.Statement.{statement}
 use Rattle.lister.proofs.put_listing.Tie as tie
 
-is-envelope-requires : tie.Need-is-envelope-requires
-is-envelope-requires c κs = search needs
+-- past the test an input is good
+good : (d : tie.Else1) → Good (d .before .before .before .before .args .input .now)
+good d = is-good (d .before .before .before .before .args .input .now) (sym (d .before .input-refusal .ensures) ∙ d .if1 .left)
 
-sub-ring : tie.Need-sub-ring
-sub-ring c =
-    let e = c .before .is-envelope in
-    omega (arith, header-there (c .before .before .before .before .args .input .now) (e .result) (e .ensures) (c .if1 .taken))
-
-part-ring-start : tie.Need-part-ring-start
-part-ring-start c =
-    let e = c .before .is-envelope in
-    omega (arith, header-there (c .before .before .before .before .args .input .now) (e .result) (e .ensures) (c .if1 .taken))
-
-part-ring-end : tie.Need-part-ring-end
-part-ring-end c = search needs
+input-refusal-requires : tie.Need-input-refusal-requires
+input-refusal-requires c κs = search needs
 
 put-refused-requires : tie.Need-put-refused-requires
 put-refused-requires c κs = search needs
@@ -31,15 +24,34 @@ same-length c = search needs
 returns : tie.Need-returns
 returns c =
     let p = c .before .before in
-    let e = p .before .before .before .before .before in
-    let a = e .before .before .before .args in
-    put-same (a .out .now) (p .put-refused .last .0) (refusalLine ringEmpty) (listing (a .input .now)) (p .put-refused .result)
-    (empty-listing (a .input .now) (e .is-envelope .result) (e .is-envelope .ensures) (p .before .before .before .before .if1 .taken) _
-    (rest-is (a .input .now)) (p .before .before .if2 .taken))
+    let t = p .before .before in
+    let n = t .before in
+    let a = n .before .before .before .args in
+    put-same (a .out .now) (p .put-refused .last .0) _ (listing (a .input .now)) (p .put-refused .result)
+    (refused-listing (a .input .now) _ (n .input-refusal .ensures) (t .if1 .taken))
     (p .put-refused .ensures)
 
-put-refused-requires-2 : tie.Need-put-refused-requires-2
-put-refused-requires-2 c κs = search needs
+sub-put-ring : tie.Need-sub-put-ring
+sub-put-ring c = omega (arith, good (c .before) .header)
+
+part-put-ring-start : tie.Need-part-put-ring-start
+part-put-ring-start c = omega (arith, good (c .before) .header)
+
+part-put-ring-end : tie.Need-part-put-ring-end
+part-put-ring-end c = search needs
+
+shared-slice-read-put-ring : tie.Need-shared-slice-read-put-ring
+shared-slice-read-put-ring c = omega (arith, good (c .before .before .before) .header)
+
+read-long-requires : tie.Need-read-long-requires
+read-long-requires c κs = omega (arith, good (c .before .before .before) .header)
+
+put-ring-requires : tie.Need-put-ring-requires
+put-ring-requires c κs =
+    let d = c .before .before .before .before in
+    let s = d .before .before .before .before in
+    let r = ap length (rest-is (s .args .input .now)) in
+    (omega (arith, s .pre), (omega (arith, r, good d .some), omega (arith, r, good d .short)))
 
 same-length-2 : tie.Need-same-length-2
 same-length-2 c = search needs
@@ -47,73 +59,27 @@ same-length-2 c = search needs
 returns-2 : tie.Need-returns-2
 returns-2 c =
     let p = c .before .before in
-    let e = p .before .before .before .before .before .before in
-    let a = e .before .before .before .args in
-    put-same (a .out .now) (p .put-refused2 .last .0) (refusalLine ringTooLong) (listing (a .input .now)) (p .put-refused2 .result)
-    (long-listing (a .input .now) (e .is-envelope .result) (e .is-envelope .ensures)
-    (p .before .before .before .before .before .if1 .taken) _ (rest-is (a .input .now)) (p .before .before .before .if2 .left)
-    (p .before .before .if3 .taken))
-    (p .put-refused2 .ensures)
-
-shared-slice-read-put-ring : tie.Need-shared-slice-read-put-ring
-shared-slice-read-put-ring c = search needs
-
-read-long-requires : tie.Need-read-long-requires
-read-long-requires c κs = search needs
-
-put-ring-requires : tie.Need-put-ring-requires
-put-ring-requires c κs = search needs
-
-same-length-3 : tie.Need-same-length-3
-same-length-3 c = search needs
-
-returns-3 : tie.Need-returns-3
-returns-3 c =
-    let p = c .before .before in
     let l = p .before in
-    let e = l .before .before .before .before .before .before .before in
-    let a = e .before .before .before .args in
+    let d = l .before .before .before .before in
+    let n = d .before in
+    let a = n .before .before .before .args in
     put-same (a .out .now) (p .put-ring .last .0) _ (listing (a .input .now)) (p .put-ring .result)
-    (ring-listing (a .input .now) (e .is-envelope .result) (e .is-envelope .ensures)
-    (l .before .before .before .before .before .before .if1 .taken) _ (rest-is (a .input .now))
-    (l .before .before .before .before .if2 .left) (omega arith)
-    (l .read-long .result) (l .read-long .ensures .0))
+    (ring-listing (a .input .now) (sym (n .input-refusal .ensures) ∙ d .if1 .left) _ _ (rest-is (a .input .now)) (l .read-long .ensures .0))
     (p .put-ring .ensures)
-
-put-refused-requires-3 : tie.Need-put-refused-requires-3
-put-refused-requires-3 c κs = search needs
-
-same-length-4 : tie.Need-same-length-4
-same-length-4 c = search needs
-
-returns-4 : tie.Need-returns-4
-returns-4 c =
-    let p = c .before .before in
-    let e = p .before .before .before in
-    let a = e .before .before .before .args in
-    put-same (a .out .now) (p .put-refused3 .last .0) (refusalLine wrongImage) (listing (a .input .now)) (p .put-refused3 .result)
-    (wrong-listing (a .input .now) (e .is-envelope .result) (e .is-envelope .ensures) (p .before .before .if1 .left))
-    (p .put-refused3 .ensures)
 
 pub put-listing-spec : {M : Type 1} → statement M
 put-listing-spec =
     tie.close
     (tie.spec
-    is-envelope-requires
-    sub-ring
-    part-ring-start
-    part-ring-end
+    input-refusal-requires
     put-refused-requires
     same-length
     returns
-    put-refused-requires-2
-    same-length-2
-    returns-2
+    sub-put-ring
+    part-put-ring-start
+    part-put-ring-end
     shared-slice-read-put-ring
     read-long-requires
     put-ring-requires
-    same-length-3
-    returns-3
-    put-refused-requires-3
-    same-length-4
-    returns-4)
+    same-length-2
+    returns-2)

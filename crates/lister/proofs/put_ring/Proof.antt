@@ -28,7 +28,7 @@ put-track-requires c κs =
     let d = c .before .before .before .before .before .before .before .before in
     let a = d .before .before .before .before .before .args in
     let n = few-found (a .ring .now) (a .track) (a .start) _ _ (omega arith) (omega arith) (omega arith) (omega arith)
-    (d .decode-track-from .result) (w .0 .0) (d .decode-track-from .ensures .0) (w .1) in
+    (d .decode-track-from .result) (w .0 .0) (w .0 .1 .0) (d .decode-track-from .ensures .0) (w .1) in
     omega (arith, d .decode-track-from .kept)
 
 enum-known-answer-2 : tie.Need-enum-known-answer-2
@@ -47,7 +47,8 @@ returns c =
     let d = p .before .before .before .before .before .before .before .before .before in
     let a = d .before .before .before .before .before .args in
     ring-put (a .ring .now) (a .track) (a .start) _ _ (omega arith) (omega arith) (omega arith) (omega arith)
-    (d .decode-track-from .result) (w .0 .0) (d .decode-track-from .last .1 .1 .1 .0) (d .decode-track-from .last .1 .1 .1 .1 .0)
+    (d .decode-track-from .result) (w .0 .0) (w .0 .1 .0) (d .decode-track-from .last .1 .1 .1 .0)
+    (d .decode-track-from .last .1 .1 .1 .1 .0)
     (a .out .now) (p .put-track .last .0) (p .put-track .result)
     (d .decode-track-from .ensures .0) (w .1) (d .decode-track-from .ensures .1) (d .decode-track-from .ensures .2) (p .put-track .ensures)
 

@@ -1,4 +1,5 @@
 use mathlib.Core.Path.{sym, _∙_}
+use Rattle.image_statuses.specs.Symbols.{symbolOf}
 use Rattle.page_track.proofs.TrackLaws.{line-there, line-absent}
 use borrow.Author.Needs.{needs}
 use Rattle.page_track.proofs.put_statuses.Statement.{statement}
@@ -19,6 +20,9 @@ slice-aggregate-tally c = search needs
 tally-requires : tie.Need-tally-requires
 tally-requires c κs = search needs
 
+put-symbol-requires : tie.Need-put-symbol-requires
+put-symbol-requires c κs = search needs
+
 slice-aggregate-words : tie.Need-slice-aggregate-words
 slice-aggregate-words c = search needs
 
@@ -30,13 +34,14 @@ same-length c = search needs
 
 returns : tie.Need-returns
 returns c =
-    let a = c .before .before .before .before .before .before .before .before .before .before .before .before .before .before .before
-    .before .before .before .before .args in
-    line-there _ _ _ (a .track) (a .statuses .now)
-    (c .before .before .before .before .before .before .before .before .before .before .before .before .before .before .counted
-    .ensures) _ (sym (c .before .before .before .before .before .before .before .before .before .before .before .any-nonzero
-    .ensures) ∙ c .before .before .before .before .before .before .before .before .before .before .if1 .taken)
-    (c .before .before .before .before .before .before .before .tally .ensures) (c .before .before .words .ensures)
+    let w = c .before .before in
+    let s = w .before .before .before .before .before in
+    let t = s .before .before .before .before in
+    let i = t .before .before .before in
+    let k = i .before .before .before .before in
+    let a = k .before .before .before .before .before .before .args in
+    line-there _ _ _ (a .track) (a .statuses .now) (symbolOf (a .image .now) (a .track)) (k .counted .ensures) _ _
+    (sym (i .before .any-nonzero .ensures) ∙ i .if1 .taken) (t .tally .ensures) (s .put-symbol .ensures) (w .words .ensures)
 
 slice-aggregate-words-2 : tie.Need-slice-aggregate-words-2
 slice-aggregate-words-2 c = search needs
@@ -49,12 +54,12 @@ same-length-2 c = search needs
 
 returns-2 : tie.Need-returns-2
 returns-2 c =
-    let a = c .before .before .before .before .before .before .before .before .before .before .before .before .before .before .args in
-    line-absent _ _ _ (a .track) (a .statuses .now)
-    (c .before .before .before .before .before .before .before .before .before .counted .ensures)
-    (sym (c .before .before .before .before .before .before .any-nonzero .ensures) ∙ c .before .before .before .before .before
-    .if1 .left)
-    (c .before .before .words2 .ensures)
+    let w = c .before .before in
+    let i = w .before .before .before in
+    let k = i .before .before .before .before in
+    let a = k .before .before .before .before .before .before .args in
+    line-absent _ _ _ (a .track) (a .statuses .now) (symbolOf (a .image .now) (a .track)) (k .counted .ensures)
+    (sym (i .before .any-nonzero .ensures) ∙ i .if1 .left) (w .words2 .ensures)
 
 pub put-statuses-spec : {M : Type 1} → statement M
 put-statuses-spec =
@@ -65,6 +70,7 @@ put-statuses-spec =
     any-nonzero-requires
     slice-aggregate-tally
     tally-requires
+    put-symbol-requires
     slice-aggregate-words
     words-requires
     same-length

@@ -6,7 +6,7 @@ use lib.ListN.{replicate, take}
 use Rattle.page.specs.Page.{sheet, writes}
 use Rattle.image_statuses.specs.Statuses.{statusesOf}
 use Rattle.image_statuses.proofs.StatusLaws.{statuses-read}
-use Rattle.page_track.specs.Tracks.{ifShown, trackLine}
+use Rattle.page_track.specs.Tracks.{ifShown, lineIn}
 use Rattle.page_track.specs.Inside.{noted}
 use borrow.Author.Needs.{needs}
 use Rattle.page_track.proofs.put_track.Statement.{statement}
@@ -55,7 +55,7 @@ returns c =
     statuses-read (a .image .now) (replicate 21 0) (t .last .1 .1 .0) (a .track) (n .result) (omega arith) (t .ensures .1) (n .ensures .0)
     in (
       c .before .before .put-if-shown .ensures
-          ∙ ap (λ (l : List ℕ). writes (sheet (a .page .now) (a .at)) (ifShown trackLine (a .track) l))
+          ∙ ap (λ (l : List ℕ). writes (sheet (a .page .now) (a .at)) (ifShown (lineIn (a .image .now)) (a .track) l))
           (c .before .before .before .so-far2 .ensures ∙ e),
       c .before .before .before .before .before .before .note .ensures ∙ ap (λ (l : List ℕ). noted l (a .met .now))
           (c .before .before .before .before .before .before .before .before .so-far .ensures ∙ e),

@@ -11,33 +11,39 @@ use Rattle.ring.specs.Bit.{bitAt}
 use Rattle.scan.specs.declared.SectorRecord.{SectorRecord}
 use Rattle.scan.specs.declared.NextPlace.{NextPlace}
 use Rattle.scan.specs.Scan.{aRecord, recordsFrom, mostRecords}
+use Rattle.scan.specs.BadSymbols.{badSymbol}
 use Rattle.scan.specs.Meeting.{placeIn, bitAfter, placeMet}
 use Rattle.scan.proofs.NextLaws.{NextIs, first-is}
 use Rattle.scan.proofs.Passing.{endOf}
-use Rattle.scan.proofs.LoopLaws.{turn-near, turn-none, turn-record, turn-skip, record-bit}
+use Rattle.scan.proofs.LoopLaws.{turn-near, turn-index, turn-none, turn-record, turn-skip, record-bit}
+use Rattle.scan.proofs.BadSoFar.{BadSoFar, none-so-far, bad-more, bad-over}
 use Rattle.scan.proofs.Listing.{Listing, list-begins, few, rows-kept, payloads-kept, one-more, lists, as-listed, list-ends}
 use Rattle.scan.proofs.list_records.Statement.{statement}
 use Rattle.scan.proofs.list_records.Tie as tie
 use Rattle.scan.proofs.list_records.Reads as reads
 use Rattle.scan.proofs.list_records.Lts as lts
+use Rattle.scan.proofs.bad_in.Reads as bad-in-reads
 use Rattle.scan.proofs.next_bit.Reads as next-bit-reads
 use Rattle.scan.proofs.next_visit.Reads as next-visit-reads
+use Rattle.scan.proofs.or_else.Reads as or-else-reads
 use Rattle.scan.proofs.put_row.Reads as put-row-reads
 use Rattle.scan.proofs.record_in.Reads as record-in-reads
 
 abbrev Inv-loop : tie.InvT-loop
-Inv-loop ring track start-bit rows payloads bits start end payload₀ bit₀ n payload bit =
+Inv-loop ring track start-bit rows payloads bits start end payload₀ bit₀ n bad₀ payload bit bad =
     (bit₀ ≤ bit) × (recordsFrom (bitAt ring) track end bit ≡ recordsFrom (bitAt ring) track end bit₀)
+    × BadSoFar ring track end (badSymbol ring track start-bit) bad bit
 
 abbrev μ-loop : tie.MeasureT-loop
-μ-loop ring track start-bit rows payloads bits start end payload₀ bit₀ n payload bit = end - bit
+μ-loop ring track start-bit rows payloads bits start end payload₀ bit₀ n bad₀ payload bit bad = end - bit
 
 abbrev Inv-scan : tie.InvT-scan
-Inv-scan ring track start-bit rows₀ payloads₀ bits start end payload₀ bit₀ n₀ rows payloads payload bit n =
-    Listing ring track start-bit rows₀ payloads₀ rows payloads bit n
+Inv-scan ring track start-bit rows₀ payloads₀ bits start end payload₀ bit₀ n₀ bad₀ rows payloads payload bit n bad =
+    Listing ring track start-bit rows₀ payloads₀ rows payloads bit n × BadSoFar ring track end (badSymbol ring track start-bit) bad bit
 
 abbrev μ-scan : tie.MeasureT-scan
-μ-scan ring track start-bit rows₀ payloads₀ bits start end payload₀ bit₀ n₀ rows payloads payload bit n = end - bit
+μ-scan ring track start-bit rows₀ payloads₀ bits start end payload₀ bit₀ n₀ bad₀ rows payloads payload bit n bad =
+    end - bit
 
 -- the places of the loops, from a later one back to an earlier one
 abbrev start : tie.At-scan Inv-loop μ-loop Inv-scan μ-scan → tie.Start Inv-loop μ-loop Inv-scan μ-scan
@@ -61,7 +67,7 @@ abbrev scan-at : tie.After-next-visit Inv-loop μ-loop Inv-scan μ-scan → tie.
 scan-at k = k .before .before .before
 
 abbrev met-at : tie.After-record-in Inv-loop μ-loop Inv-scan μ-scan → tie.Else1 Inv-loop μ-loop Inv-scan μ-scan
-met-at q = q .before .before .before
+met-at q = q .before .before .before .before .before
 
 -- the payload as the visit leaves it
 abbrev lent : tie.After-next-visit Inv-loop μ-loop Inv-scan μ-scan → List ℕ
@@ -145,19 +151,50 @@ add-end c =
 
 scan-holds : tie.Need-scan-holds Inv-loop μ-loop Inv-scan μ-scan
 scan-holds c =
-    list-begins _ _ _ _ _
+    (list-begins _ _ _ _ _, none-so-far _ _ _)
 
 loop-holds : tie.Need-loop-holds Inv-loop μ-loop Inv-scan μ-scan
 loop-holds c =
-    (omega arith, refl)
+    (omega arith, refl, c .scan .inv .1)
 
 next-visit-requires : tie.Need-next-visit-requires Inv-loop μ-loop Inv-scan μ-scan
 next-visit-requires c κs =
     let a = c .before .before in (start a .pre .0, end-small a)
 
+bad-in-requires : tie.Need-bad-in-requires Inv-loop μ-loop Inv-scan μ-scan
+bad-in-requires c κs =
+    let d = c .before in
+    let k = visit-at d in
+    let a = start (scan-at k) in
+    let n = near-of d in
+    let e = end-small (scan-at k) in (
+      omega (arith, a .pre .0 .some),
+      omega (arith, n .2, e),
+      omega (arith, n .3, e),
+      turn-index (bitAt (a .args .ring .now)) (a .args .track) (end-of (scan-at k)) (k .before .before .loop .bit)
+          (k .next-visit .result) (lent k) (k .next-visit .ensures) (not-false _ (d .if1 .left)),
+    )
+
+or-else-requires : tie.Need-or-else-requires Inv-loop μ-loop Inv-scan μ-scan
+or-else-requires c κs =
+    search needs
+
+-- what was met so far, with what this visit met
+met-more : (q : tie.After-record-in Inv-loop μ-loop Inv-scan μ-scan)
+    → let l = scan-at (visit-at (met-at q)) in
+    let a = start l .args in
+    BadSoFar (a .ring .now) (a .track) (end-of l) (badSymbol (a .ring .now) (a .track) (a .start-bit))
+    (q .before .before .or-else .result) (q .before .next-bit .result)
+met-more q =
+    let d = met-at q in
+    let k = visit-at d in
+    let o = q .before .before in
+    bad-more (k .before .before .loop .inv .2) (k .next-visit .result) (lent k) (k .next-visit .ensures) (not-false _ (d .if1 .left)) _ _ _
+    (o .before .bad-in .ensures) (o .or-else .ensures) (q .before .next-bit .ensures)
+
 next-bit-requires : tie.Need-next-bit-requires Inv-loop μ-loop Inv-scan μ-scan
 next-bit-requires c κs =
-    let d = c .before in
+    let d = c .before .before .before in
     let n = near-of d in
     let e = end-small (scan-at (visit-at d)) in
     (omega (arith, n .2, e), omega (arith, n .3, e))
@@ -178,6 +215,7 @@ loop-again c =
     let b = c .before .before .next-bit .ensures in (
       omega (arith, l .loop .inv .0, near-of d, skips c .1, b),
       rw b (sym (skips c .0) ∙ l .loop .inv .1),
+      met-more (c .before),
     )
 
 put-row-requires : tie.Need-put-row-requires Inv-loop μ-loop Inv-scan μ-scan
@@ -185,16 +223,16 @@ put-row-requires c κs =
     let t = c .before .before .before in
     let k = visit-at (met-at (t .before)) in
     let a = scan-at k in
-    let n : a .scan .n < mostRecords = one-more (a .scan .inv) (start a .pre .0 .small) _ (next-is t) in (
-      omega (arith, rows-kept (a .scan .inv) (omega (arith, start a .pre .1)), start a .pre .1),
-      omega (arith, payloads-kept (a .scan .inv) (omega (arith, start a .pre .1)), start a .pre .1, next-is t .long),
+    let n : a .scan .n < mostRecords = one-more (a .scan .inv .0) (start a .pre .0 .small) _ (next-is t) in (
+      omega (arith, rows-kept (a .scan .inv .0) (omega (arith, start a .pre .1)), start a .pre .1),
+      omega (arith, payloads-kept (a .scan .inv .0) (omega (arith, start a .pre .1)), start a .pre .1, next-is t .long),
     )
 
 add-n : tie.Need-add-n Inv-loop μ-loop Inv-scan μ-scan
 add-n c =
     let t = then-at (put-at c) in
     let a = scan-at (visit-at (met-at (t .before))) in
-    omega (arith, one-more (a .scan .inv) (start a .pre .0 .small) _ (next-is t))
+    omega (arith, one-more (a .scan .inv .0) (start a .pre .0 .small) _ (next-is t))
 
 scan-less : tie.Need-scan-less Inv-loop μ-loop Inv-scan μ-scan
 scan-less c =
@@ -206,19 +244,21 @@ scan-again c =
     let p = put-at c in
     let t = then-at p in
     let a = scan-at (visit-at (met-at (t .before))) in
-    let e = p .put-row .ensures in
-    as-listed (e .0) (e .1) (bit-is t)
-    (lists (a .scan .inv) (start a .pre .0 .small) _ (next-is t) (start a .pre .1 .0) (start a .pre .1 .1))
+    let e = p .put-row .ensures in (
+      as-listed (e .0) (e .1) (bit-is t)
+          (lists (a .scan .inv .0) (start a .pre .0 .small) _ (next-is t) (start a .pre .1 .0) (start a .pre .1 .1)),
+      met-more (t .before),
+    )
 
 same-length : tie.Need-same-length Inv-loop μ-loop Inv-scan μ-scan
 same-length c =
     let a = scan-at (c .before .before) in
-    rows-kept (a .scan .inv) (omega (arith, few (a .scan .inv) (start a .pre .0 .small), start a .pre .1))
+    rows-kept (a .scan .inv .0) (omega (arith, few (a .scan .inv .0) (start a .pre .0 .small), start a .pre .1))
 
 same-length-2 : tie.Need-same-length-2 Inv-loop μ-loop Inv-scan μ-scan
 same-length-2 c =
     let a = scan-at (c .before .before) in
-    payloads-kept (a .scan .inv) (omega (arith, few (a .scan .inv) (start a .pre .0 .small), start a .pre .1))
+    payloads-kept (a .scan .inv .0) (omega (arith, few (a .scan .inv .0) (start a .pre .0 .small), start a .pre .1))
 
 returns : tie.Need-returns Inv-loop μ-loop Inv-scan μ-scan
 returns c =
@@ -226,9 +266,10 @@ returns c =
     let l = k .before .before in
     let a = scan-at k in
     let g = start a .args in
-    list-ends (a .scan .inv)
+    list-ends (a .scan .inv .0) _
     (sym (l .loop .inv .1) ∙ turn-none (bitAt (g .ring .now)) (g .track) _ _ (k .next-visit .result) (lent k) (k .next-visit .ensures)
     (not-true _ (c .if1 .taken)) .0)
+    (bad-over (l .loop .inv .2) (k .next-visit .result) (lent k) (k .next-visit .ensures) (not-true _ (c .if1 .taken)))
 
 pub list-records-spec : {M : Type 1} → statement M
 list-records-spec =
@@ -244,6 +285,8 @@ list-records-spec =
     scan-holds
     loop-holds
     next-visit-requires
+    bad-in-requires
+    or-else-requires
     next-bit-requires
     record-in-requires
     loop-less

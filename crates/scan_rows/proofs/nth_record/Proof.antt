@@ -65,9 +65,10 @@ use Rattle.scan_rows.specs.Inside.{ofScan}
 use Rattle.scan_rows.proofs.Row as Q
 use Rattle.scan_rows.proofs.Row.Laws as Q′
 use Rattle.scan_rows.proofs.Records.{R}
+use Rattle.scan_rows.proofs.Told.{Answer, made-answer}
 use Rattle.scan_rows.proofs.LocalRows.{lay, unlay}
 use Rattle.scan_rows.proofs.NthLaws.{nth}
-use Rattle.scan_rows.proofs.NthCalls.{S, told, made, Answer, made-answer, ZeroRecord, ScanInto, ReadRow, OfScan}
+use Rattle.scan_rows.proofs.NthCalls.{S, told, made, ZeroRecord, ScanInto, ReadRow, OfScan}
 use Rattle.scan_rows.proofs.NthCalls.{to-zero, goes-zero}
 use Rattle.scan_rows.proofs.NthCalls.{of-zero, Lent, scan-arg, to-scan, goes-scan, Into}
 use Rattle.scan_rows.proofs.NthCalls.{Shared, read-arg, to-read, goes-read, of-read}

@@ -8,7 +8,7 @@ enum-known-answer : tie.Need-enum-known-answer
 enum-known-answer c = search needs
 
 returns : tie.Need-returns
-returns c = of-scan-in _ _ _ _ (c .before .before .answer .given .1) (c .if1 .taken)
+returns c = of-scan-in _ _ _ _ _ (c .before .before .answer .given .1) (c .if1 .taken)
 
 no-row-requires : tie.Need-no-row-requires
 no-row-requires c κs = search needs
@@ -20,7 +20,7 @@ refused-row-requires : tie.Need-refused-row-requires
 refused-row-requires c κs = search needs
 
 returns-2 : tie.Need-returns-2
-returns-2 c = c .no-row .ensures ∙ of-scan-past _ _ _ _ (c .before .before .before .answer .given .1) (c .before .if1 .left)
+returns-2 c = c .no-row .ensures ∙ of-scan-past _ _ _ _ _ (c .before .before .before .answer .given .1) (c .before .if1 .left)
 
 returns-3 : tie.Need-returns-3
 returns-3 c = c .refused-row .ensures ∙ of-scan-refused _ _ _ _ (c .before .before .answer2 .given .1)

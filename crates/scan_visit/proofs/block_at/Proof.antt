@@ -1,26 +1,31 @@
-use mathlib.Core.Path.{_∙_}
+use mathlib.Core.Path.{sym, _∙_}
 use borrow.Author.Tests.{not-true, not-false}
-use Rattle.scan_visit.proofs.WholeBlock.{judged-illegal, judged-mark, judged-sum, judged-good}
+use Rattle.scan_visit.proofs.BlockTests.{block-illegal}
+use Rattle.scan_visit.proofs.WholeBlock.{judged-mark, judged-sum, judged-good}
 use borrow.Author.Needs.{needs}
 use Rattle.scan_visit.proofs.block_at.Statement.{statement}
 use Rattle.scan_visit.proofs.block_at.Tie as tie
 use Rattle.scan_visit.proofs.block_at.Reads as reads
 use Rattle.scan_visit.proofs.block_at.Lts as lts
+use Rattle.scan_visit.proofs.first_bad.Reads as first-bad-reads
 use Rattle.scan_visit.proofs.read_block.Reads as read-block-reads
 use Rattle.scan_visit.proofs.wiped.Reads as wiped-reads
 
 read-block-requires : tie.Need-read-block-requires
 read-block-requires c κs = search needs
 
+first-bad-requires : tie.Need-first-bad-requires
+first-bad-requires c κs =
+    let d = c .before in
+    let q = d .before .before in
+    let s = q .before .before .before in
+    (s .pre .0, (s .pre .1 .0, sym (q .read-block .ensures .told) ∙ not-true _ (d .if1 .taken)))
+
 wiped-requires : tie.Need-wiped-requires
 wiped-requires c κs = search needs
 
 returns : tie.Need-returns
-returns c =
-    let d = c .before .before in
-    let q = d .before .before in
-    let s = q .before .before .before in
-    c .wiped .ensures ∙ judged-illegal _ _ _ _ (s .pre .1 .1) _ _ (q .read-block .ensures) (not-true _ (d .if1 .taken))
+returns c = c .wiped .ensures ∙ block-illegal _ _ _ (c .before .first-bad .ensures)
 
 array-read-if2 : tie.Need-array-read-if2
 array-read-if2 c = search needs
@@ -62,6 +67,7 @@ block-at-spec =
     tie.close
     (tie.spec
     read-block-requires
+    first-bad-requires
     wiped-requires
     returns
     array-read-if2

@@ -24,16 +24,19 @@ group-at-requires : tie.Need-group-at-requires
 group-at-requires c κs =
     (c .before .pre .0, (place-in _ _ (c .before .pre .0 .some), omega arith))
 
+cast-t13 : tie.Need-cast-t13
+cast-t13 c = search needs
+
 wiped-requires : tie.Need-wiped-requires
 wiped-requires c κs = search needs
 
 returns : tie.Need-returns
 returns c =
-    let g = c .before .before .before .before in
+    let g = c .before .before .before .before .before in
     let a = g .before .before .args in
     c .wiped .ensures
     ∙ data-illegal _ _ _ (read-illegal (a .ring .now) _ _ _ (split-place (a .place) (length (a .ring .now))) _ (g .group-at .ensures)
-    (not-true _ (c .before .before .if1 .taken)) .1)
+    (not-true _ (c .before .before .before .if1 .taken)))
 
 array-read-if2 : tie.Need-array-read-if2
 array-read-if2 c = search needs
@@ -74,6 +77,7 @@ data-at-spec =
     mul-start
     rem-start
     group-at-requires
+    cast-t13
     wiped-requires
     returns
     array-read-if2

@@ -6,6 +6,7 @@ use Rattle.gcr.specs.Answers.{answer4}
 use Rattle.gcr.proofs.AtPlaces.{forty-at}
 use Rattle.ring.specs.Bit.{bitAt}
 use Rattle.ring.proofs.RingLaws.{bit-lt}
+use Rattle.scan_visit.proofs.GroupLaws.{as-group}
 use borrow.Author.Needs.{needs}
 use Rattle.scan_visit.proofs.group_at.Statement.{statement}
 use Rattle.scan_visit.proofs.group_at.Tie as tie
@@ -22,9 +23,11 @@ decode-bits-requires c κs = search needs
 
 returns : tie.Need-returns
 returns c =
-    let a = c .before .before .before .args in
-    c .decode-bits .ensures ∙ ap (λ (v : ℕ). answer4 (fromSymbols (digits 32 8 v))) (c .before .forty-bits .ensures)
-    ∙ ap answer4 (forty-at (bitAt (a .ring .now)) (bit-lt (a .ring .now)) _)
+    let d = c .before in
+    let a = d .before .before .before .args in
+    as-group _ _
+    (d .decode-bits .ensures ∙ ap (λ (v : ℕ). answer4 (fromSymbols (digits 32 8 v))) (d .before .forty-bits .ensures)
+    ∙ ap answer4 (forty-at (bitAt (a .ring .now)) (bit-lt (a .ring .now)) _))
 
 pub group-at-spec : {M : Type 1} → statement M
 group-at-spec = tie.close (tie.spec forty-bits-requires decode-bits-requires returns)

@@ -4,7 +4,7 @@ use lib.ListN.{length}
 use borrow.Author.Tests.{not-true, not-false}
 use Rattle.ring.proofs.RingLaws.{place-in}
 use Rattle.ring.proofs.Words.{place-on}
-use Rattle.scan_visit.proofs.GroupLaws.{split-place}
+use Rattle.scan_visit.proofs.GroupLaws.{split-place, index-small}
 use Rattle.scan_visit.proofs.BlockTests.{first-illegal, second-illegal, both-groups}
 use borrow.Author.Needs.{needs}
 use Rattle.scan_visit.proofs.header_at.Statement.{statement}
@@ -39,9 +39,15 @@ five-on-requires c κs =
 group-at-requires-2 : tie.Need-group-at-requires-2
 group-at-requires-2 c κs = search needs
 
+add-t14 : tie.Need-add-t14
+add-t14 c =
+    let d = c .before .before .before in
+    let l = index-small _ _ _ (d .group-at2 .ensures) (not-true _ (c .before .if2 .taken)) in
+    omega arith
+
 returns-2 : tie.Need-returns-2
 returns-2 c =
-    let d = c .before .before in
+    let d = c .before .before .before in
     let f = d .before in
     let g = f .before .before .before in
     let s = g .before .before in
@@ -50,7 +56,7 @@ returns-2 c =
     let here = split-place (a .place) n in
     second-illegal (a .ring .now) (a .track) (a .place) _ _ here _ (g .group-at .ensures) (not-false _ (f .before .if1 .left)) _
     (place-on n _ _ (a .place) 5 _ (s .pre .0 .some) (omega arith) here (f .five-on .ensures .0)) _ (d .group-at2 .ensures)
-    (not-true _ (c .if2 .taken))
+    (not-true _ (c .before .if2 .taken))
 
 checked-header-requires : tie.Need-checked-header-requires
 checked-header-requires c κs = search needs
@@ -80,6 +86,7 @@ header-at-spec =
     returns
     five-on-requires
     group-at-requires-2
+    add-t14
     returns-2
     checked-header-requires
     returns-3)

@@ -18,9 +18,10 @@ same-length c = search needs
 
 returns : tie.Need-returns
 returns c =
-    let f = c .before .before .before in
+    let f = c .before .before .before .before in
     let a = f .before .before .before .before .before .args in
-    places-told (a .rule) _ (a .places .now) _ (f .find-copies .result) _ _ (f .find-copies .ensures) _ (c .refusal-by .ensures)
+    places-told (a .rule) _ (a .places .now) _ (f .find-copies .result .tally) _ _ (f .find-copies .ensures .0) _
+    (c .refusal-by .ensures) _ _ (f .find-copies .ensures .1)
 
 pub find-places-spec : {M : Type 1} → statement M
 find-places-spec =

@@ -54,7 +54,7 @@ rewrite-requires c κs =
     let f = c .before .before .before .before .before in
     let e = f .before .before .before in
     let a = e .before .before .before .args in
-    (rings e, small-found (a .ring .now) (a .track) (a .sector) (rings e) _ refl (a .rule) _ _ (f .find-places .ensures))
+    (rings e, small-found (a .ring .now) (a .track) (a .sector) (rings e) _ refl (a .rule) _ _ _ (f .find-places .ensures))
 
 same-length-2 : tie.Need-same-length-2
 same-length-2 c = search needs
@@ -67,8 +67,9 @@ returns-3 c =
     let e = f .before .before .before in
     let a = e .before .before .before .args in
     rewritten-by (ruleOf (a .rule)) (a .ring .now) (a .track) (a .sector) (a .«data» .now) _
-    (sym (read-good (a .ring .now) (a .track) (a .sector) (rings e) (a .rule) _ (f .find-places .ensures .told) [] (q .if2 .left))) _ _
-    (taken-found (a .ring .now) (a .track) (a .sector) (rings e) _ refl (a .rule) _ _ (f .find-places .ensures)) (w .rewrite .ensures)
+    (sym (read-good (a .ring .now) (a .track) (a .sector) (rings e) (a .rule) _ (f .find-places .ensures .told) [] (q .if2 .left))) _ _ _
+    (taken-found (a .ring .now) (a .track) (a .sector) (rings e) _ refl (a .rule) _ _ _ (f .find-places .ensures))
+    (w .rewrite .ensures) (f .find-places .ensures .met)
 
 pub replace-by-spec : {M : Type 1} → statement M
 replace-by-spec =

@@ -1,0 +1,4 @@
+pub mod Telling
+pub mod EachBlock
+pub mod EveryRing
+pub mod BuiltNone

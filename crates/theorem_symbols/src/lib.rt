@@ -1,0 +1,1 @@
+// No code: the theorems about the first bad symbol of a scan.
