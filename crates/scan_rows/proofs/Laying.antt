@@ -21,7 +21,7 @@ use Rattle.scan.proofs.Passing.{endOf, Passing, sets-out, passes, before-most, 
 use Rattle.scan.proofs.Few.{few-left}
 use Rattle.scan.proofs.BadSoFar.{BadSoFar, bad-passed, bad-ends}
 use Rattle.scan_rows.specs.declared.NextRow.{NextRow}
-use Rattle.scan_rows.specs.Inside.{withoutBad, NextOf}
+use Rattle.scan_rows.specs.Inside.{withBytes, NextOf}
 use Rattle.scan_rows.specs.Rows.{stored, laid}
 
 -- a test, as one of two equations
@@ -124,15 +124,16 @@ module _ {ring : List ℕ} {track start bit : ℕ} {done : List SectorRecord} {n
 -- ---- the bad symbol beside the next record: what was met so far, and where no record is left, of the whole scan
 pub record Telling (ring : List ℕ) (track start : ℕ) (next : NextRow) : Type 0 where
   pub further : next .found ≡ true
-      → BadSoFar ring track (endOf ring start) (badSymbol ring track start) (next .bad) (next .row .place + 2600)
+      → BadSoFar ring track (endOf ring start) (badSymbol ring track start) (next .bad) (next .place + 2600)
   pub whole : next .found ≡ false → next .bad ≡ badSymbol ring track start
 
 pub tells : {ring : List ℕ} {track start bit : ℕ} {bad : BadSymbol}
-    → BadSoFar ring track (endOf ring start) (badSymbol ring track start) bad bit → (next : NextRow)
-    → NextOf ring track (endOf ring start) bit bad next → Telling ring track start next
-tells {ring} {track} {start} {bit} i next n =
+    → BadSoFar ring track (endOf ring start) (badSymbol ring track start) bad bit → (next : NextRow) (payload : List ℕ)
+    → NextOf ring track (endOf ring start) bit bad next payload → Telling ring track start next
+tells {ring} {track} {start} {bit} i next payload n =
+    let found = withBytes next payload in
     record {
-      further = λ f. bad-passed i _ _ refl (n .met) (next .row)
-          (next-some (bitAt ring) track (endOf ring start) bit (withoutBad next) (n .next) f);
-      whole = λ f. bad-ends i _ _ refl (n .met) (next-none (bitAt ring) track (endOf ring start) bit (withoutBad next) (n .next) f);
+      further = λ f. bad-passed i _ _ refl (n .met) (found .row)
+          (next-some (bitAt ring) track (endOf ring start) bit found (n .next) f);
+      whole = λ f. bad-ends i _ _ refl (n .met) (next-none (bitAt ring) track (endOf ring start) bit found (n .next) f);
     }

@@ -9,20 +9,20 @@ use Rattle.scan.specs.declared.Scanned.the-variants.{Records, Refused}
 use Rattle.ring.specs.Bit.{bits, bitAt}
 use Rattle.scan.specs.declared.NextRecord.{NextRecord}
 use Rattle.scan.specs.declared.BadSymbol.{BadSymbol}
-use Rattle.scan.specs.Scan.{visits, recordsFrom}
+use Rattle.scan.specs.Scan.{aRecord, visits, recordsFrom}
 use Rattle.scan.specs.BadSymbols.{orElse, badOnWay}
 use Rattle.scan.specs.Answers.{nextOf}
 use Rattle.scan_rows.specs.declared.NextRow.{NextRow}
 use Rattle.scan_rows.specs.declared.Row.{Row}
 use Rattle.scan_rows.specs.Rows.{refusedRow, noRow}
 
--- the next record of a scan, without the bad symbol beside it
-abbrev pub withoutBad : NextRow → NextRecord
-withoutBad next = record { found = next .found; row = next .row }
+-- the next record of a scan with the payload that is stored, without the bad symbol beside it
+abbrev pub withBytes : NextRow → List ℕ → NextRecord
+withBytes next payload = record { found = next .found; row = aRecord (next .sector) (next .place) payload }
 
--- the first record at or after scan bit b, and the first bad symbol: `bad`, which was met before, or else one on the way to the record
-pub record NextOf (ring : List ℕ) (track end b : ℕ) (bad : BadSymbol) (r : NextRow) : Type 0 where
-  pub next : withoutBad r ≡ nextOf (recordsFrom (bitAt ring) track end b)
+-- the first record at or after scan bit b, with its payload, and the first bad symbol: `bad`, which was met before, or else one on the way
+pub record NextOf (ring : List ℕ) (track end b : ℕ) (bad : BadSymbol) (r : NextRow) (payload : List ℕ) : Type 0 where
+  pub next : withBytes r payload ≡ nextOf (recordsFrom (bitAt ring) track end b)
   pub met : r .bad ≡ orElse bad (badOnWay (bits ring) (visits (bitAt ring) track end b))
 
 -- row n of a scan that gave this answer

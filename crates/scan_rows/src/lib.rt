@@ -36,26 +36,35 @@ fn refusal(rows: usize, bytes: usize) -> u8
     ring::refusal_of(bytes)
 }
 
-// The next record of a scan, if there is one, and the first bad symbol that was met so far.
+// The next record of a scan, if there is one, without its payload, which is lent; and the first bad symbol that was met so far.
 struct NextRow {
     pub found: bool,
-    pub row: SectorRecord,
+    pub sector: usize,
+    pub place: usize,
     pub bad: BadSymbol,
 }
 
-// The first record at or after scan bit `from` of a scan that ends at `end` and has met `bad` before.
-fn next_row(ring: &[u8], track: u8, end: usize, from: usize, bad: BadSymbol) -> NextRow
+// The first record at or after scan bit `from` of a scan that ends at `end` and has met `bad` before; its payload is stored, zeros where
+// there is none.
+fn next_row(
+    ring: &[u8],
+    track: u8,
+    end: usize,
+    from: usize,
+    bad: BadSymbol,
+    payload: &mut [u8; 256],
+) -> NextRow
     requires { ⌜ (IsRing (now ring)) × (end ≤ 1048560) ⌝ }
-    ensures { λ r. ⌜ NextOf (now (ring .entry)) track end from bad r ⌝ }
+    ensures { λ r. ⌜ NextOf (now (ring .entry)) track end from bad r (now (payload .exit)) ⌝ }
 {
-    let mut payload = [0u8; 256];
-    let met = scan::next_met(ring, track, end, from, &mut payload);
+    let met = scan::next_met(ring, track, end, from, payload);
     let next = met.next;
     let way = met.bad;
     let sofar = scan::or_else(bad, way);
     NextRow {
         found: next.found,
-        row: scan::a_record(next.sector, next.place, payload),
+        sector: next.sector,
+        place: next.place,
         bad: sofar,
     }
 }
@@ -71,18 +80,26 @@ fn list_rows(ring: &[u8], track: u8, start_bit: usize, rows: &mut [SectorRecord]
     let bits = 8 * ring.len();
     let start = start_bit % bits;
     let end = start + bits;
-    let mut next = next_row(ring, track, end, start, BadSymbol::NoneMet);
+    // Lent to each search: in what a search returns it would stand on the stack twice.
+    let mut payload = [0u8; 256];
+    let mut next = next_row(ring, track, end, start, BadSymbol::NoneMet, &mut payload);
     let mut n: usize = 0;
     while next.found {
-        store_row(rows, n, next.row);
-        n += 1;
+        let row = SectorRecord {
+            sector: next.sector,
+            place: next.place,
+            payload: payload,
+        };
+        store_row(rows, n, row);
         next = next_row(
             ring,
             track,
             end,
-            next.row.place + geometry::BLOCK_BITS,
+            next.place + geometry::BLOCK_BITS,
             next.bad,
+            &mut payload,
         );
+        n += 1;
     }
     Scanned::Records(n, next.bad)
 }
