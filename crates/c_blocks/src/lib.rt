@@ -1,6 +1,8 @@
 // The blocks of the library that C and Rust programs link: each function answers 0 when it is done, or the refusal's number, and then
 // nothing lent has changed but the index that tells of a bad symbol. The names begin with the library's, since a name is the whole
 // program's, as in C.
+#![tactic(auto)]
+
 ghost use Rattle.std.specs.Prelude.{◌≡◌};
 ghost use Rattle.gcr_blocks.specs.Answers.{coded_number, encode_refusal, encoded_out, decoded_number, decode_refusal, decoded, decoded_out};
 ghost use Rattle.c_blocks.specs.Numbers.{symbol_after};

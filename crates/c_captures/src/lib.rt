@@ -3,7 +3,7 @@
 ghost use Rattle.std.specs.Prelude.{◌≡◌, length};
 ghost use Rattle.nib_orbit.specs.Orbit.{recovered};
 ghost use Rattle.nib_slots.specs.Slots.{slot_answer};
-ghost use Rattle.nib_write.specs.Encoding.{encoded_of, out_after as fileAfter};
+ghost use Rattle.nib_write.specs.Encoding.{encoded_of, out_after as file_after};
 ghost use Rattle.c_captures.specs.Numbers.{slot_number, at_after, span_after, zone_after, encoded_number, written_after};
 
 use nib_slots::NibSlot;
@@ -83,7 +83,7 @@ pub extern "C" fn fielbmaru_encode_nib(
     ensures { (result ≡ encoded_number (encoded_of lengths.now rings.now out.old))
         × (written.new ≡ written_after written.old
         (encoded_of lengths.now rings.now out.old))
-        × (out.new ≡ fileAfter lengths.now zones.now rings.now out.old) }
+        × (out.new ≡ file_after lengths.now zones.now rings.now out.old) }
 {
     let answer = nib_write::encode_nib(lengths, zones, rings, out);
     tell_encoded(answer, written)

@@ -1,12 +1,14 @@
 // The tracks of the library that C and Rust programs link: each function answers 0 when it is done, or the refusal's number, and then
 // nothing lent has changed. The names begin with the library's, since a name is the whole program's, as in C.
+#![tactic(auto)]
+
 ghost use Rattle.std.specs.Prelude.{◌≡◌};
-ghost use Rattle.track_build.specs.Answers.{built, out_after as trackAfter};
+ghost use Rattle.track_build.specs.Answers.{built, out_after as track_after};
 ghost use Rattle.scan.specs.Answers.{scanned, rows_after, payloads_after};
 ghost use Rattle.track_read.specs.Answers.{track_read, track_payloads, track_statuses};
-ghost use Rattle.scan_rows.specs.Answers.{scanned_into, rows_after as recordsAfter};
+ghost use Rattle.scan_rows.specs.Answers.{scanned_into, rows_after as records_after};
 ghost use Rattle.c_tracks.specs.Numbers.{built_number, scanned_number, count_after, bad_after, track_number, found_after, bad_found};
-ghost use Rattle.c_tracks.specs.Numbers.{bad_block, bad_index, bad_bit};
+ghost use Rattle.c_tracks.specs.Numbers.{bad_block as block_of_bad, bad_index, bad_bit as bit_of_bad};
 
 use scan::{BadSymbol, Scanned, SectorRecord};
 use track_build::Built;
@@ -32,14 +34,14 @@ pub extern "C" fn fielbmaru_build_track(
     out: &mut [u8],
 ) -> u64
     ensures { (result ≡ built_number (built track payloads.now out.old))
-        × (out.new ≡ trackAfter track payloads.now codes.now id1 id2 out.old) }
+        × (out.new ≡ track_after track payloads.now codes.now id1 id2 out.old) }
 {
     number_of_built(track_build::build_track_with_errors(track, payloads, codes, id1, id2, out))
 }
 
 // A bad symbol as three numbers.
 fn tell_bad(bad: BadSymbol, block: &mut u64, symbol: &mut u64, bit: &mut u64)
-    ensures { (block.new ≡ bad_block bad) × (symbol.new ≡ bad_index bad) × (bit.new ≡ bad_bit bad) }
+    ensures { (block.new ≡ block_of_bad bad) × (symbol.new ≡ bad_index bad) × (bit.new ≡ bit_of_bad bad) }
 {
     match bad {
         BadSymbol::NoneMet => {
@@ -69,9 +71,9 @@ fn tell_scanned(
     bit: &mut u64,
 ) -> u64
     ensures { (result ≡ scanned_number answer) × (count.new ≡ count_after count.old answer)
-        × (block.new ≡ bad_after bad_block block.old answer)
+        × (block.new ≡ bad_after block_of_bad block.old answer)
         × (symbol.new ≡ bad_after bad_index symbol.old answer)
-        × (bit.new ≡ bad_after bad_bit bit.old answer) }
+        × (bit.new ≡ bad_after bit_of_bad bit.old answer) }
 {
     match answer {
         Scanned::Records(n, bad) => {
@@ -101,11 +103,11 @@ pub extern "C" fn fielbmaru_scan(
         (scanned ring.now track start_bit rows.old payloads.old)) }
     ensures rows_after { (rows.new ≡ rows_after ring.now track start_bit rows.old payloads.old)
         × (payloads.new ≡ payloads_after ring.now track start_bit rows.old payloads.old) }
-    ensures bad_block_after { (bad_block.new ≡ bad_after bad_block bad_block.old
+    ensures bad_block_after { (bad_block.new ≡ bad_after block_of_bad bad_block.old
         (scanned ring.now track start_bit rows.old payloads.old))
         × (bad_symbol.new ≡ bad_after bad_index bad_symbol.old
         (scanned ring.now track start_bit rows.old payloads.old))
-        × (bad_bit.new ≡ bad_after bad_bit bad_bit.old
+        × (bad_bit.new ≡ bad_after bit_of_bad bad_bit.old
         (scanned ring.now track start_bit rows.old payloads.old)) }
 {
     let answer = scan::scan_sector_records(ring, track, start_bit as usize, rows, payloads);
@@ -127,12 +129,12 @@ pub extern "C" fn fielbmaru_scan_records(
     ensures { (result ≡ scanned_number (scanned_into ring.now track start_bit records.old))
         × (count.new ≡ count_after count.old
         (scanned_into ring.now track start_bit records.old))
-        × (records.new ≡ recordsAfter ring.now track start_bit records.old)
-        × (bad_block.new ≡ bad_after bad_block bad_block.old
+        × (records.new ≡ records_after ring.now track start_bit records.old)
+        × (bad_block.new ≡ bad_after block_of_bad bad_block.old
         (scanned_into ring.now track start_bit records.old))
         × (bad_symbol.new ≡ bad_after bad_index bad_symbol.old
         (scanned_into ring.now track start_bit records.old))
-        × (bad_bit.new ≡ bad_after bad_bit bad_bit.old
+        × (bad_bit.new ≡ bad_after bit_of_bad bad_bit.old
         (scanned_into ring.now track start_bit records.old)) }
 {
     let answer = scan_rows::scan_into_rows(ring, track, start_bit as usize, records);
@@ -148,9 +150,9 @@ fn tell_found(
     bit: &mut u64,
 ) -> u64
     ensures { (result ≡ track_number answer) × (found.new ≡ found_after found.old answer)
-        × (block.new ≡ bad_found bad_block block.old answer)
+        × (block.new ≡ bad_found block_of_bad block.old answer)
         × (symbol.new ≡ bad_found bad_index symbol.old answer)
-        × (bit.new ≡ bad_found bad_bit bit.old answer) }
+        × (bit.new ≡ bad_found bit_of_bad bit.old answer) }
 {
     match answer {
         TrackRead::Found(n, bad) => {
@@ -181,11 +183,11 @@ pub extern "C" fn fielbmaru_decode_track(
     ensures payloads_after { (payloads.new
         ≡ track_payloads ring.now track start_bit payloads.old statuses.old)
         × (statuses.new ≡ track_statuses ring.now track start_bit payloads.old statuses.old) }
-    ensures bad_block_after { (bad_block.new ≡ bad_found bad_block bad_block.old
+    ensures bad_block_after { (bad_block.new ≡ bad_found block_of_bad bad_block.old
         (track_read ring.now track start_bit payloads.old statuses.old))
         × (bad_symbol.new ≡ bad_found bad_index bad_symbol.old
         (track_read ring.now track start_bit payloads.old statuses.old))
-        × (bad_bit.new ≡ bad_found bad_bit bad_bit.old
+        × (bad_bit.new ≡ bad_found bit_of_bad bad_bit.old
         (track_read ring.now track start_bit payloads.old statuses.old)) }
 {
     let answer = track_read::decode_track_from(ring, track, start_bit as usize, payloads, statuses);

@@ -1,20 +1,24 @@
 // The ring lister: reads an envelope and its ring from standard input, and prints the listing.
-use libc::{STDIN_FILENO, STDOUT_FILENO};
+#![tactic(auto)]
+
 use lister::Listed;
+use std::io;
+use std::io::Write;
 
 // One byte more than the longest input that is listed, so that a longer one is seen to be too long and is not cut.
 const ROOM: usize = 8203;
 
-fn list(input: &[u8]) {
-    let mut out = [0u8; lister::LONGEST_LISTING];
-    let answer = lister::list_ring(input, &mut out);
-    if let Listed::Written(n) = answer {
-        io::write_all(STDOUT_FILENO, &out[..n]);
+fn list<W: Write>(out: &mut W, input: &[u8]) -> io::Result<()> {
+    let mut listing = [0u8; lister::LONGEST_LISTING];
+    let answer = lister::list_ring(input, &mut listing);
+    match answer {
+        Listed::Written(n) => out.write_all(&listing[..n]),
+        Listed::Refused(_) => Ok(()),
     }
 }
 
-fn main() {
+fn main(rt: HostRuntime) -> io::Result<()> {
     let mut input = [0u8; ROOM];
-    let n = io::read_full(STDIN_FILENO, &mut input);
-    list(&input[..n]);
+    let n = desk_io::fill(&mut rt.stdin(), &mut input)?;
+    list(&mut rt.stdout(), &input[..n])
 }

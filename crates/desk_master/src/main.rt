@@ -1,42 +1,61 @@
 // Writes the master of a D64: the image is read from standard input, its G64 goes to standard output, and the lines of what was written
 // to standard error. Refused, only that line is written; of a file over 1 MiB only that it is too long.
-use g64_write::Mastered;
-use libc::{STDERR_FILENO, STDIN_FILENO, STDOUT_FILENO};
+#![tactic(auto)]
 
-fn refuse(number: u8) {
+use g64_write::Mastered;
+use std::io;
+use std::io::{Read, Write};
+
+fn refuse<W: Write>(err: &mut W, number: u8) -> io::Result<()> {
     let mut line = [0u8; 128];
     let n = page_lines::refused_line(&mut line, 0, number);
-    io::write_all(STDERR_FILENO, page::so_far(&line, n));
+    err.write_all(page::so_far(&line, n))
 }
 
-fn tell(d64: &[u8], bytes: usize) {
+fn tell<W: Write>(err: &mut W, d64: &[u8], bytes: usize) -> io::Result<()> {
     let mut page = [0u8; 8192];
     let n = page_master::put_master(&mut page, 0, d64, bytes);
-    io::write_all(STDERR_FILENO, page::so_far(&page, n));
+    err.write_all(page::so_far(&page, n))
 }
 
-fn write(d64: &[u8], out: &mut [u8]) {
-    let answer = g64_write::d64_to_g64(d64, out);
+fn write<O: Write, E: Write>(
+    out: &mut O,
+    err: &mut E,
+    d64: &[u8],
+    master: &mut [u8],
+) -> io::Result<()> {
+    let answer = g64_write::d64_to_g64(d64, master);
     match answer {
         Mastered::Written(bytes) => {
-            io::write_all(STDOUT_FILENO, page::so_far(out, bytes));
-            tell(d64, bytes);
+            out.write_all(page::so_far(master, bytes))?;
+            tell(err, d64, bytes)
         }
-        Mastered::Refused(number) => refuse(number),
+        Mastered::Refused(number) => refuse(err, number),
     }
 }
 
-fn run(buffer: &mut [u8], out: &mut [u8]) {
-    let n = io::read_full(STDIN_FILENO, buffer);
+fn run<R: Read, O: Write, E: Write>(
+    input: &mut R,
+    out: &mut O,
+    err: &mut E,
+    buffer: &mut [u8],
+    master: &mut [u8],
+) -> io::Result<()> {
+    let n = desk_io::fill(input, buffer)?;
     if n == buffer.len() {
-        io::write_all(STDERR_FILENO, b"too long\n");
-        return;
+        return err.write_all(b"too long\n");
     }
-    write(&buffer[..n], out);
+    write(out, err, &buffer[..n], master)
 }
 
-fn main() {
+fn main(rt: HostRuntime) -> io::Result<()> {
     let mut buffer = desk_room::image();
-    let mut out = desk_room::master();
-    run(&mut buffer, &mut out);
+    let mut master = desk_room::master();
+    run(
+        &mut rt.stdin(),
+        &mut rt.stdout(),
+        &mut rt.stderr(),
+        &mut buffer,
+        &mut master,
+    )
 }

@@ -1,4 +1,6 @@
 // Room that programs read images into and lend to the library.
+#![tactic(auto)]
+
 ghost use Rattle.desk_room.specs.Room.{Room};
 
 // One byte more than the longest image that is taken (1 MiB), so that a longer one is seen to be too long and is not cut.

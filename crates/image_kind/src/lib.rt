@@ -7,7 +7,7 @@ use geometry::TrackCount;
 use nib_catalogue::Pairs;
 
 // The kinds of image; a D64 with its number of tracks.
-#[derive(Drop)]
+#[derive(Clone, Copy)]
 pub enum Kind {
     D64(u8),
     G64,

@@ -3,7 +3,7 @@ ghost use Rattle.std.specs.Prelude.{◌≡◌, ◌<◌, ◌≤◌};
 ghost use Rattle.image_rings.specs.Rings.{start_of, length_of, no_table, rings, ring_place};
 
 // Where a ring lies in an image: at a byte, so many bytes long; nowhere; or its entry is wrong.
-#[derive(Drop)]
+#[derive(Clone, Copy)]
 pub enum Place {
     At(usize, usize),
     Absent,

@@ -1,9 +1,9 @@
 // The orbit of a capture: the first bytes of a window, as many as one turn of the disk took.
 ghost use Rattle.std.specs.Prelude.{◌≡◌, ◌-◌, ◌≤◌, length};
 ghost use Rattle.nib_orbit.specs.Orbit.{
-  agreements as agreementsOf,
-  estimate as estimateOf,
-  apart as apartOf,
+  agreements as agreements_of,
+  estimate as estimate_of,
+  apart as apart_of,
   better,
   best_of,
   chosen_estimate,
@@ -11,7 +11,7 @@ ghost use Rattle.nib_orbit.specs.Orbit.{
 };
 
 // A span, its agreements and its observations.
-#[derive(Drop)]
+#[derive(Clone, Copy)]
 pub struct Estimate {
     pub span: usize,
     pub agreements: usize,
@@ -27,7 +27,7 @@ const MIDDLE: [usize; 4] = [6247, 6662, 7137, 7720];
 // The pairs of equal bytes of a window that lie a span apart.
 fn agreements(window: &[u8], span: usize) -> usize
     requires { span ≤ length window.now }
-    ensures { (result ≡ agreementsOf window.now span) × (result ≤ length window.now - span) }
+    ensures { (result ≡ agreements_of window.now span) × (result ≤ length window.now - span) }
 {
     let n = window.len() - span;
     let mut count: usize = 0;
@@ -44,7 +44,7 @@ fn agreements(window: &[u8], span: usize) -> usize
 // What a window says of a span.
 fn measure(window: &[u8], span: usize) -> Estimate
     requires { (length window.now ≡ 8192) × (span ≤ 8192) }
-    ensures { (result ≡ estimateOf window.now span) × (result.agreements ≤ 8192) × (result.observations ≤ 8192) }
+    ensures { (result ≡ estimate_of window.now span) × (result.agreements ≤ 8192) × (result.observations ≤ 8192) }
 {
     let agreements = agreements(window, span);
     Estimate {
@@ -55,7 +55,7 @@ fn measure(window: &[u8], span: usize) -> Estimate
 }
 
 fn apart(a: usize, b: usize) -> usize
-    ensures { result ≡ apartOf a b }
+    ensures { result ≡ apart_of a b }
 {
     if a < b { b - a } else { a - b }
 }

@@ -1,6 +1,6 @@
 -- The arcs as they are put, text by text: p is the page before, and each equation is what one call adds; and where they lie.
 use mathlib.Core.Path.{◌≡◌}
-use mathlib.Core.List.{List, [], ◌∷◌, ◌++◌}
+use mathlib.Core.List.{List, [], ◌∷◌}
 use Prim.Native.Nat.{ℕ, ◌-◌, ◌*◌, ◌/◌, ◌≤◌, ◌<◌}
 use native.Mathlib.Omega.{arith}
 use native.Mathlib.Nat.{le_of_lt, div-le_self, div-mul-le_self, mul-le-mul_left}

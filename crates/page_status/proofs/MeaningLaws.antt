@@ -1,13 +1,13 @@
 -- The words of a status as they are put, text by text: p is the page before, and each equation is what one call adds.
 use mathlib.Core.Path.{◌≡◌}
 use mathlib.Core.Bool.{Bool, true, false}
-use mathlib.Core.List.{List, [], ◌∷◌, ◌++◌}
+use mathlib.Core.List.{List, [], ◌∷◌}
 use Prim.Native.Nat.{ℕ, ◌<◌}
 use native.Mathlib.Omega.{arith}
 use Rattle.base.specs.Words.{ascii}
 use Rattle.base.proofs.Tests.{eqb_no}
 use Rattle.page_text.specs.Numerals.{decimal}
-use Rattle.page.specs.Page.{Text, Page, writes}
+use Rattle.page.specs.Page.{Page, writes}
 use Rattle.page.proofs.PageLaws.{nothing, then}
 use Rattle.page_status.specs.Meanings.{status_name, status_note, meaning_line, meant_text, legend_text}
 

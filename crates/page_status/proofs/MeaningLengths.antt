@@ -5,7 +5,6 @@ use Prim.Native.Nat.{ℕ, ◌≤◌, ◌<◌}
 use native.Mathlib.Omega.{arith}
 use lib.ListN.{length, length-append}
 use lib.Dec.{eqb}
-use Rattle.base.specs.Words.{ascii}
 use Rattle.base.specs.Choice.{pick}
 use Rattle.base.proofs.Picks.{pick_ind}
 use Rattle.page_text.proofs.DecimalLaws.{decimal_width}

@@ -18,11 +18,9 @@ fn fill(part: &mut [u8], seed: u32) {
 // Row O.
 fn or_all(part: &mut [u8], seed: u32) {
     let mut state = seed;
-    let mut i: usize = 0;
-    while i < part.len() {
+    for byte in part.iter_mut() {
         state = draw::step(state);
-        part[i] = part[i] | draw::byte_of(state);
-        i += 1;
+        *byte |= draw::byte_of(state);
     }
 }
 
@@ -66,10 +64,8 @@ fn copy_up(buf: &mut [u8], at: usize, n: usize, from: usize)
     requires n_in_bounds { at + n ≤ length buf.old }
     requires n_in_bounds_2 { from + n ≤ length buf.old }
 {
-    let mut k: usize = 0;
-    while k < n {
+    for k in 0..n {
         buf[at + k] = buf[from + k];
-        k += 1;
     }
 }
 

@@ -6,6 +6,8 @@ use crate::{rows, says};
 use nib_slots::Zone;
 use nib_write::Encoded;
 use replay_shared::sum;
+use std::io;
+use std::io::Write;
 
 // Where lengths, of four bytes each, and zones stand in the source.
 const LENGTHS: usize = 0x33400;
@@ -13,10 +15,10 @@ const LENGTHS: usize = 0x33400;
 const ZONES: usize = 0x33800;
 
 // Row o.
-pub fn span(window: &[u8], row: Row) {
+pub fn span<W: Write>(out: &mut W, window: &[u8], row: Row) -> io::Result<()> {
     let ring = nib_orbit::recover_orbit(window, (row.c % 256) as u8);
-    says::number(b"span", ring.len() as u64);
-    says::end();
+    says::number(out, b"span", ring.len() as u64)?;
+    says::end(out)
 }
 
 #[derive(Drop)]
@@ -54,41 +56,41 @@ fn all_slots(file: &[u8]) -> Slots {
     slots
 }
 
-fn tell_slots(file: &[u8]) {
+fn tell_slots<W: Write>(out: &mut W, file: &[u8]) -> io::Result<()> {
     let zone = nib_slots::nib_zone(file, 0);
     match zone {
-        Zone::Refused(n) => says::refused(n),
+        Zone::Refused(n) => says::refused(out, n),
         Zone::Is(_) => {
             let slots = all_slots(file);
-            says::number(b"slots", slots.present);
-            says::checksum(slots.total);
+            says::number(out, b"slots", slots.present)?;
+            says::checksum(out, slots.total)
         }
     }
 }
 
 // Row n.
-pub fn whole(file: &[u8]) {
-    tell_slots(file);
-    says::end();
+pub fn whole<W: Write>(out: &mut W, file: &[u8]) -> io::Result<()> {
+    tell_slots(out, file)?;
+    says::end(out)
 }
 
-fn tell_slot(file: &[u8], slot: usize) {
+fn tell_slot<W: Write>(out: &mut W, file: &[u8], slot: usize) -> io::Result<()> {
     let zone = nib_slots::nib_zone(file, slot);
     match zone {
-        Zone::Refused(n) => says::refused(n),
+        Zone::Refused(n) => says::refused(out, n),
         Zone::Is(z) => {
             let ring = nib_slots::nib_ring(file, slot);
-            says::number(b"zone", z as u64);
-            says::number(b" length", ring.len() as u64);
-            says::sum_of(ring);
+            says::number(out, b"zone", z as u64)?;
+            says::number(out, b" length", ring.len() as u64)?;
+            says::sum_of(out, ring)
         }
     }
 }
 
 // Row w.
-pub fn one_slot(file: &[u8], row: Row) {
-    tell_slot(file, row.c as usize);
-    says::end();
+pub fn one_slot<W: Write>(out: &mut W, file: &[u8], row: Row) -> io::Result<()> {
+    tell_slot(out, file, row.c as usize)?;
+    says::end(out)
 }
 
 // A length of four bytes; 0 where there are not so many.
@@ -102,42 +104,52 @@ fn length_of(part: &[u8]) -> u64 {
 fn read_lengths(lengths: &mut [u64], source: &[u8])
     requires { length lengths.old ≤ 100 }
 {
-    let mut i: usize = 0;
-    while i < lengths.len() {
+    for i in 0..lengths.len() {
         lengths[i] = length_of(rows::part(source, LENGTHS + 4 * i, 4));
-        i += 1;
     }
 }
 
-fn tell_encoded(answer: Encoded) {
+fn tell_encoded<W: Write>(out: &mut W, answer: Encoded) -> io::Result<()> {
     match answer {
-        Encoded::Written(n) => says::number(b"encoded", n as u64),
-        Encoded::Refused(n) => says::refused(n),
+        Encoded::Written(n) => says::number(out, b"encoded", n as u64),
+        Encoded::Refused(n) => says::refused(out, n),
     }
 }
 
-fn encode_into(room: &mut [u8], source: &[u8], row: Row, lengths: &[u64]) {
+fn encode_into<W: Write>(
+    out: &mut W,
+    room: &mut [u8],
+    source: &[u8],
+    row: Row,
+    lengths: &[u64],
+) -> io::Result<()> {
     let zones = rows::part(source, ZONES, row.f as usize);
     let rings = rows::part(source, row.c as usize, row.d as usize);
-    tell_encoded(nib_write::encode_nib(lengths, zones, rings, room));
-    says::sum_of(room);
-    says::end();
+    tell_encoded(out, nib_write::encode_nib(lengths, zones, rings, room))?;
+    says::sum_of(out, room)?;
+    says::end(out)
 }
 
-fn encode_with(room: &mut [u8], source: &[u8], row: Row, lengths: &mut [u64]) {
+fn encode_with<W: Write>(
+    out: &mut W,
+    room: &mut [u8],
+    source: &[u8],
+    row: Row,
+    lengths: &mut [u64],
+) -> io::Result<()> {
     let count = row.e as usize;
     if 100 < count {
-        return;
+        return Ok(());
     }
     if lengths.len() < count {
-        return;
+        return Ok(());
     }
     read_lengths(&mut lengths[0..count], source);
-    encode_into(room, source, row, &lengths[0..count]);
+    encode_into(out, room, source, row, &lengths[0..count])
 }
 
 // Row e.
-pub fn encode(room: &mut [u8], source: &[u8], row: Row) {
+pub fn encode<W: Write>(out: &mut W, room: &mut [u8], source: &[u8], row: Row) -> io::Result<()> {
     let mut lengths = [0u64; 100];
-    encode_with(room, source, row, &mut lengths);
+    encode_with(out, room, source, row, &mut lengths)
 }

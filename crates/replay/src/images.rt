@@ -2,6 +2,8 @@
 use crate::rows::Row;
 use crate::says;
 use reclaim::Outcome;
+use std::io;
+use std::io::Write;
 
 fn cleared(image: &mut [u8], kind: u32) -> Outcome {
     match kind {
@@ -11,19 +13,19 @@ fn cleared(image: &mut [u8], kind: u32) -> Outcome {
     }
 }
 
-fn tell(answer: Outcome) {
+fn tell<W: Write>(out: &mut W, answer: Outcome) -> io::Result<()> {
     match answer {
         Outcome::Cleared { free, changed } => {
-            says::number(b"free", free as u64);
-            says::number(b" changed", changed as u64);
+            says::number(out, b"free", free as u64)?;
+            says::number(out, b" changed", changed as u64)
         }
-        Outcome::Refused(n) => says::refused(n),
+        Outcome::Refused(n) => says::refused(out, n),
     }
 }
 
 // Row x.
-pub fn clear(image: &mut [u8], row: Row) {
-    tell(cleared(image, row.c));
-    says::sum_of(image);
-    says::end();
+pub fn clear<W: Write>(out: &mut W, image: &mut [u8], row: Row) -> io::Result<()> {
+    tell(out, cleared(image, row.c))?;
+    says::sum_of(out, image)?;
+    says::end(out)
 }

@@ -1,5 +1,7 @@
 // Rows carried out on two buffers, and the library asked about them, a line for each answer: compared with what the original
 // answered (compare/README.md lists the rows). samples/make makes its images by them too.
+#![tactic(auto)]
+
 mod blocks;
 mod buffers;
 mod captures;
@@ -10,109 +12,135 @@ mod says;
 mod sectors;
 mod tracks;
 
-use libc::STDIN_FILENO;
 use rows::Row;
+use std::io;
+use std::io::{Read, Write};
 
 // Rows that ask about a part of the target and leave it as it is.
-fn ask(part: &[u8], row: Row) {
+fn ask<W: Write>(out: &mut W, part: &[u8], row: Row) -> io::Result<()> {
     let letter = row.letter;
     match letter {
-        b's' => tracks::scan(part, row),
-        b'r' => tracks::read(part, row),
-        b'u' => sectors::read(part, row, true),
-        b'c' => sectors::read(part, row, false),
-        b'o' => captures::span(part, row),
-        b'n' => captures::whole(part),
-        b'w' => captures::one_slot(part, row),
-        _ => {}
+        b's' => tracks::scan(out, part, row),
+        b'r' => tracks::read(out, part, row),
+        b'u' => sectors::read(out, part, row, true),
+        b'c' => sectors::read(out, part, row, false),
+        b'o' => captures::span(out, part, row),
+        b'n' => captures::whole(out, part),
+        b'w' => captures::one_slot(out, part, row),
+        _ => Ok(()),
     }
 }
 
 // Rows about a part of the target.
-fn turn_part(part: &mut [u8], source: &[u8], row: Row) {
+fn turn_part<W: Write>(out: &mut W, part: &mut [u8], source: &[u8], row: Row) -> io::Result<()> {
     let letter = row.letter;
     match letter {
-        b'Z' | b'I' | b'X' | b'G' => rings::change(part, source, row),
+        b'Z' | b'I' | b'X' | b'G' => {
+            rings::change(part, source, row);
+            Ok(())
+        }
         b'T' => {
             tracks::build(part, source, row);
+            Ok(())
         }
-        b'B' => tracks::build_and_tell(part, source, row),
-        b'b' => blocks::encode(part, source, row),
-        b'd' => blocks::decode(part, source, row),
-        b'U' => sectors::replace(part, source, row, true),
-        b'K' => sectors::replace(part, source, row, false),
-        b'e' => captures::encode(part, source, row),
-        b'x' => images::clear(part, row),
-        _ => ask(part, row),
+        b'B' => tracks::build_and_tell(out, part, source, row),
+        b'b' => blocks::encode(out, part, source, row),
+        b'd' => blocks::decode(out, part, source, row),
+        b'U' => sectors::replace(out, part, source, row, true),
+        b'K' => sectors::replace(out, part, source, row, false),
+        b'e' => captures::encode(out, part, source, row),
+        b'x' => images::clear(out, part, row),
+        _ => ask(out, part, row),
     }
 }
 
-fn turn_target(target: &mut [u8], source: &[u8], row: Row) {
+fn turn_target<W: Write>(
+    out: &mut W,
+    target: &mut [u8],
+    source: &[u8],
+    row: Row,
+) -> io::Result<()> {
     let at = row.a as usize;
     let n = row.b as usize;
     if target.len() < at {
-        return;
+        return Ok(());
     }
     if target.len() - at < n {
-        return;
+        return Ok(());
     }
     let end = at + n;
-    turn_part(&mut target[at..end], source, row);
+    turn_part(out, &mut target[at..end], source, row)
 }
 
 // Row W.
-fn write(buf: &[u8], row: Row) {
-    says::words(rows::part(buf, row.a as usize, row.b as usize));
+fn write<W: Write>(out: &mut W, buf: &[u8], row: Row) -> io::Result<()> {
+    says::words(out, rows::part(buf, row.a as usize, row.b as usize))
 }
 
 // Rows about the buffer that their last number names.
-fn turn_buffer(buf: &mut [u8], row: Row) {
+fn turn_buffer<W: Write>(out: &mut W, buf: &mut [u8], row: Row) -> io::Result<()> {
     if row.letter == b'W' {
-        write(buf, row);
+        write(out, buf, row)
     } else {
         buffers::change(buf, row);
+        Ok(())
     }
 }
 
-fn turn(target: &mut [u8], source: &mut [u8], row: Row) {
+fn turn<W: Write>(out: &mut W, target: &mut [u8], source: &mut [u8], row: Row) -> io::Result<()> {
     let letter = row.letter;
     match letter {
         b'S' | b'F' | b'O' | b'P' | b'C' | b'W' => {
             if row.f == 0 {
-                turn_buffer(target, row);
+                turn_buffer(out, target, row)
             } else {
-                turn_buffer(source, row);
+                turn_buffer(out, source, row)
             }
         }
-        b'Q' => buffers::check_block(source, row.a as usize),
-        _ => turn_target(target, source, row),
+        b'Q' => {
+            buffers::check_block(source, row.a as usize);
+            Ok(())
+        }
+        _ => turn_target(out, target, source, row),
     }
 }
 
 // One row, or a heading, which is copied to the output; false where the input ends.
-fn take_row(target: &mut [u8], source: &mut [u8]) -> bool {
+fn take_row<R: Read, W: Write>(
+    input: &mut R,
+    out: &mut W,
+    target: &mut [u8],
+    source: &mut [u8],
+) -> io::Result<bool> {
     let mut bytes = [0u8; 56];
-    if io::read_full(STDIN_FILENO, &mut bytes) < 56 {
-        return false;
+    if desk_io::fill(input, &mut bytes)? < 56 {
+        return Ok(false);
     }
     if bytes[0] == b'#' {
-        says::words(&bytes);
+        says::words(out, &bytes)?;
     } else {
-        turn(target, source, rows::row_of(&bytes));
+        turn(out, target, source, rows::row_of(&bytes))?;
     }
-    true
+    Ok(true)
 }
 
-// The rows in order. Nothing says that the input ends, so the loop counts its turns down from more than any file has.
-fn run(target: &mut [u8], source: &mut [u8]) {
-    let mut turns = u64::MAX;
-    while turns > 0 && take_row(target, source) {
-        turns -= 1;
+// The rows in order. Nothing says that the input ends, so the loop has more turns than any file has rows.
+fn run<R: Read, W: Write>(
+    input: &mut R,
+    out: &mut W,
+    target: &mut [u8],
+    source: &mut [u8],
+) -> io::Result<()> {
+    for _ in 0..u64::MAX {
+        if !take_row(input, out, target, source)? {
+            break;
+        }
     }
+    Ok(())
 }
 
-fn main() {
+fn main(rt: HostRuntime) -> io::Result<()> {
     let mut target = desk_room::image();
     let mut source = desk_room::disk();
-    run(&mut target, &mut source);
+    run(&mut rt.stdin(), &mut rt.stdout(), &mut target, &mut source)
 }

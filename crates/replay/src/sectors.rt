@@ -2,6 +2,8 @@
 use crate::rows::Row;
 use crate::{rows, says};
 use sector::{Replaced, SectorRead};
+use std::io;
+use std::io::Write;
 
 fn decoded(ring: &[u8], track: u8, number: u8, unique: bool) -> SectorRead {
     if unique {
@@ -10,23 +12,25 @@ fn decoded(ring: &[u8], track: u8, number: u8, unique: bool) -> SectorRead {
     sector::decode_sector_consistent(ring, track, number)
 }
 
-fn tell_sector(answer: SectorRead) {
+fn tell_sector<W: Write>(out: &mut W, answer: SectorRead) -> io::Result<()> {
     let found = answer.sector;
     if !found.ok {
-        says::refused(found.number);
-        return;
+        return says::refused(out, found.number);
     }
     let bytes = found.bytes;
     let met = answer.bad;
-    says::words(b"sector");
-    says::bad(met);
-    says::sum_of(&bytes);
+    says::words(out, b"sector")?;
+    says::bad(out, met)?;
+    says::sum_of(out, &bytes)
 }
 
 // Rows u and c.
-pub fn read(ring: &[u8], row: Row, unique: bool) {
-    tell_sector(decoded(ring, (row.c % 256) as u8, (row.d % 256) as u8, unique));
-    says::end();
+pub fn read<W: Write>(out: &mut W, ring: &[u8], row: Row, unique: bool) -> io::Result<()> {
+    tell_sector(
+        out,
+        decoded(ring, (row.c % 256) as u8, (row.d % 256) as u8, unique),
+    )?;
+    says::end(out)
 }
 
 fn replaced(ring: &mut [u8], track: u8, number: u8, bytes: &[u8; 256], unique: bool) -> Replaced {
@@ -36,30 +40,42 @@ fn replaced(ring: &mut [u8], track: u8, number: u8, bytes: &[u8; 256], unique: b
     sector::replace_sector_data_consistent(ring, track, number, bytes)
 }
 
-fn tell_replaced(answer: Replaced) {
+fn tell_replaced<W: Write>(out: &mut W, answer: Replaced) -> io::Result<()> {
     match answer {
         Replaced::Written(met) => {
-            says::words(b"written");
-            says::bad(met);
+            says::words(out, b"written")?;
+            says::bad(out, met)
         }
-        Replaced::Refused(n) => says::refused(n),
+        Replaced::Refused(n) => says::refused(out, n),
     }
 }
 
-fn replace_by(ring: &mut [u8], row: Row, bytes: &[u8; 256], unique: bool) {
+fn replace_by<W: Write>(
+    out: &mut W,
+    ring: &mut [u8],
+    row: Row,
+    bytes: &[u8; 256],
+    unique: bool,
+) -> io::Result<()> {
     let track = (row.c % 256) as u8;
     let number = (row.d % 256) as u8;
-    tell_replaced(replaced(ring, track, number, bytes, unique));
-    says::sum_of(ring);
-    says::end();
+    tell_replaced(out, replaced(ring, track, number, bytes, unique))?;
+    says::sum_of(out, ring)?;
+    says::end(out)
 }
 
 // Rows U and K.
-pub fn replace(ring: &mut [u8], source: &[u8], row: Row, unique: bool) {
+pub fn replace<W: Write>(
+    out: &mut W,
+    ring: &mut [u8],
+    source: &[u8],
+    row: Row,
+    unique: bool,
+) -> io::Result<()> {
     let part = rows::part(source, row.e as usize, 256);
     if part.len() != 256 {
-        return;
+        return Ok(());
     }
     let bytes = base::copy_block(part);
-    replace_by(ring, row, &bytes, unique);
+    replace_by(out, ring, row, &bytes, unique)
 }

@@ -5,6 +5,8 @@ use crate::rows::Row;
 use crate::{rows, says};
 use replay_shared::sum;
 use scan::Scanned;
+use std::io;
+use std::io::Write;
 use track_build::Built;
 use track_read::TrackRead;
 
@@ -24,18 +26,23 @@ pub fn build(room: &mut [u8], source: &[u8], row: Row) -> Built {
     track_build::build_track_with_errors(number, payloads, codes, id1, id2, room)
 }
 
-fn tell_built(answer: Built) {
+fn tell_built<W: Write>(out: &mut W, answer: Built) -> io::Result<()> {
     match answer {
-        Built::Written(n) => says::number(b"built", n as u64),
-        Built::Refused(n) => says::refused(n),
+        Built::Written(n) => says::number(out, b"built", n as u64),
+        Built::Refused(n) => says::refused(out, n),
     }
 }
 
 // Row B.
-pub fn build_and_tell(room: &mut [u8], source: &[u8], row: Row) {
-    tell_built(build(room, source, row));
-    says::sum_of(room);
-    says::end();
+pub fn build_and_tell<W: Write>(
+    out: &mut W,
+    room: &mut [u8],
+    source: &[u8],
+    row: Row,
+) -> io::Result<()> {
+    tell_built(out, build(room, source, row))?;
+    says::sum_of(out, room)?;
+    says::end(out)
 }
 
 fn least(a: usize, b: usize) -> usize
@@ -71,14 +78,19 @@ fn records_sum(numbers: &[u64], payloads: &[u8], n: usize) -> u32
     s
 }
 
-fn tell_records(answer: Scanned, numbers: &[u64], payloads: &[u8]) {
+fn tell_records<W: Write>(
+    out: &mut W,
+    answer: Scanned,
+    numbers: &[u64],
+    payloads: &[u8],
+) -> io::Result<()> {
     match answer {
         Scanned::Records(n, met) => {
-            says::number(b"records", n as u64);
-            says::bad(met);
-            says::checksum(records_sum(numbers, payloads, least(n, MOST_RECORDS)));
+            says::number(out, b"records", n as u64)?;
+            says::bad(out, met)?;
+            says::checksum(out, records_sum(numbers, payloads, least(n, MOST_RECORDS)))
         }
-        Scanned::Refused(n) => says::refused(n),
+        Scanned::Refused(n) => says::refused(out, n),
     }
 }
 
@@ -103,38 +115,42 @@ fn scan_into(ring: &[u8], row: Row, numbers: &mut [u64], payloads: &mut [u8]) ->
 }
 
 // Row s.
-pub fn scan(ring: &[u8], row: Row) {
+pub fn scan<W: Write>(out: &mut W, ring: &[u8], row: Row) -> io::Result<()> {
     let mut numbers = [0u64; 390];
     let mut payloads = [0u8; 49920];
     let answer = scan_into(ring, row, &mut numbers, &mut payloads);
-    tell_records(answer, &numbers, &payloads);
-    says::end();
+    tell_records(out, answer, &numbers, &payloads)?;
+    says::end(out)
 }
 
 // A digit for each status.
-fn tell_statuses(statuses: &[u8]) {
-    let mut i: usize = 0;
-    while i < statuses.len() {
-        says::words(&[48 + statuses[i] % 10]);
-        i += 1;
+fn tell_statuses<W: Write>(out: &mut W, statuses: &[u8]) -> io::Result<()> {
+    for status in statuses {
+        says::words(out, &[48 + *status % 10])?;
     }
+    Ok(())
 }
 
-fn tell_track(answer: TrackRead, payloads: &[u8], statuses: &[u8]) {
+fn tell_track<W: Write>(
+    out: &mut W,
+    answer: TrackRead,
+    payloads: &[u8],
+    statuses: &[u8],
+) -> io::Result<()> {
     match answer {
         TrackRead::Found(n, met) => {
-            says::number(b"found", n as u64);
-            says::words(b" status ");
-            tell_statuses(statuses);
-            says::bad(met);
-            says::sum_of(payloads);
+            says::number(out, b"found", n as u64)?;
+            says::words(out, b" status ")?;
+            tell_statuses(out, statuses)?;
+            says::bad(out, met)?;
+            says::sum_of(out, payloads)
         }
-        TrackRead::Refused(n) => says::refused(n),
+        TrackRead::Refused(n) => says::refused(out, n),
     }
 }
 
 // Row r.
-pub fn read(ring: &[u8], row: Row) {
+pub fn read<W: Write>(out: &mut W, ring: &[u8], row: Row) -> io::Result<()> {
     let mut payloads = [0u8; 5376];
     let mut statuses = [0u8; 21];
     let track = (row.c % 256) as u8;
@@ -147,9 +163,10 @@ pub fn read(ring: &[u8], row: Row) {
     );
     let count = geometry::sectors_per_track(track) as usize;
     tell_track(
+        out,
         answer,
         rows::part(&payloads, 0, 256 * count),
         rows::part(&statuses, 0, count),
-    );
-    says::end();
+    )?;
+    says::end(out)
 }

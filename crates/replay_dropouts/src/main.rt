@@ -1,11 +1,14 @@
 // Built tracks with one stretch forced to zero, read from many bits: what became of each sector, counted. What it must
 // write was written by the original, the statuses by the model over it (compare/README.md).
+#![tactic(auto)]
+
 ghost use Rattle.std.specs.Prelude.{◌≡◌, ◌*◌, ◌<◌, ◌≤◌};
 ghost use Rattle.geometry.specs.Zones.{zone_of, sectors_of, capacity_of, slot_start};
 ghost use Rattle.ring.specs.Stretch.{distance};
 
-use libc::STDOUT_FILENO;
 use replay_shared::{draw, sum};
+use std::io;
+use std::io::Write;
 use track_read::TrackRead;
 
 // The error codes of a track's sectors.
@@ -16,7 +19,7 @@ const CODES: [u8; 21] = [
 // The reads of a track: the generator's state, from which start bits are taken; how many there were; the sectors in
 // them that the stretch left alone and that came with their own payload; those it hit, with their own payload and
 // missing; those whose code spoils them, missing; all others; and the checksum of the status lists.
-#[derive(Drop)]
+#[derive(Clone, Copy)]
 struct Counts {
     state: u32,
     reads: u64,
@@ -50,7 +53,7 @@ fn more(n: u64, counts: bool) -> u64 {
 }
 
 // What a sector came to.
-#[derive(Drop)]
+#[derive(Clone, Copy)]
 enum Fate {
     Escaped,
     HitOwn,
@@ -95,7 +98,7 @@ fn is_spoiled(code: u8) -> bool {
 }
 
 // A stretch of a track's ring, and the bit from which the ring is read.
-#[derive(Drop)]
+#[derive(Clone, Copy)]
 struct Cut {
     track: u8,
     place: usize,
@@ -317,7 +320,7 @@ fn run(track: u8) -> Counts {
     c
 }
 
-fn show(track: u8) {
+fn show<W: Write>(out: &mut W, track: u8) -> io::Result<()> {
     let c = run(track);
     let mut line = [0u8; 256];
     let mut at = page::words(&mut line, 0, b"track");
@@ -336,14 +339,15 @@ fn show(track: u8) {
     at = page::number(&mut line, at, c.other);
     at = page::sum(&mut line, at, c.total);
     at = page::words(&mut line, at, b"\n");
-    io::write_all(STDOUT_FILENO, page::so_far(&line, at));
+    out.write_all(page::so_far(&line, at))
 }
 
-fn main() {
-    show(1);
-    show(18);
-    show(25);
-    show(31);
-    show(36);
-    show(42);
+fn main(rt: HostRuntime) -> io::Result<()> {
+    let mut out = rt.stdout();
+    show(&mut out, 1)?;
+    show(&mut out, 18)?;
+    show(&mut out, 25)?;
+    show(&mut out, 31)?;
+    show(&mut out, 36)?;
+    show(&mut out, 42)
 }

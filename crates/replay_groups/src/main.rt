@@ -1,11 +1,14 @@
 // Groups of the nibble code, encoded and decoded, with a line for each set of them. What it must write was written by
 // the original; where a symbol is bad, it was asked of each symbol alone (compare/README.md).
-use libc::STDOUT_FILENO;
+#![tactic(auto)]
+
 use replay_shared::{draw, sum};
+use std::io;
+use std::io::Write;
 
 // A set of groups under way: the generator's state, how many groups there were, how many of them came back as they
 // were (or were refused), the checksum of what was made, and that of the refused groups' first bad symbols.
-#[derive(Drop)]
+#[derive(Clone, Copy)]
 struct Part {
     state: u32,
     count: u64,
@@ -71,9 +74,9 @@ fn decoded(p: Part, code: [u8; 5]) -> Part {
 }
 
 // A line with its end, written.
-fn write(line: &mut [u8], at: usize) {
+fn write<W: Write>(out: &mut W, line: &mut [u8], at: usize) -> io::Result<()> {
     let n = page::words(line, at, b"\n");
-    io::write_all(STDOUT_FILENO, page::so_far(line, n));
+    out.write_all(page::so_far(line, n))
 }
 
 // What every line says.
@@ -85,18 +88,18 @@ fn counted(line: &mut [u8], name: &[u8], p: Part, what: &[u8]) -> usize {
     page::sum(line, at, p.total)
 }
 
-fn show_back(name: &[u8], p: Part) {
+fn show_back<W: Write>(out: &mut W, name: &[u8], p: Part) -> io::Result<()> {
     let mut line = [0u8; 128];
     let at = counted(&mut line, name, p, b" back");
-    write(&mut line, at);
+    write(out, &mut line, at)
 }
 
-fn show_refused(name: &[u8], p: Part) {
+fn show_refused<W: Write>(out: &mut W, name: &[u8], p: Part) -> io::Result<()> {
     let mut line = [0u8; 128];
     let mut at = counted(&mut line, name, p, b" refused");
     at = page::words(&mut line, at, b" first symbols");
     at = page::sum(&mut line, at, p.firsts);
-    write(&mut line, at);
+    write(out, &mut line, at)
 }
 
 // Pair k of first bytes, with two zeros behind it.
@@ -140,7 +143,7 @@ fn damaged_code(p: Part) -> Part {
     next
 }
 
-#[derive(Drop)]
+#[derive(Clone, Copy)]
 enum Set {
     Prefixes,
     RandomGroups,
@@ -165,9 +168,10 @@ fn run(set: Set, seed: u32, turns: u32) -> Part {
     p
 }
 
-fn main() {
-    show_back(b"prefixes", run(Set::Prefixes, 0, 65536));
-    show_back(b"random", run(Set::RandomGroups, 1541, 8192));
-    show_refused(b"codes", run(Set::RandomCodes, 1542, 65536));
-    show_refused(b"damaged", run(Set::DamagedCodes, 1543, 8192));
+fn main(rt: HostRuntime) -> io::Result<()> {
+    let mut out = rt.stdout();
+    show_back(&mut out, b"prefixes", run(Set::Prefixes, 0, 65536))?;
+    show_back(&mut out, b"random", run(Set::RandomGroups, 1541, 8192))?;
+    show_refused(&mut out, b"codes", run(Set::RandomCodes, 1542, 65536))?;
+    show_refused(&mut out, b"damaged", run(Set::DamagedCodes, 1543, 8192))
 }

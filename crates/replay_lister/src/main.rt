@@ -1,35 +1,35 @@
 // The ring lister on inputs made here, each listing under a name. What it must write comes from the rules of docs/RULES.md by
 // compare/lister-lines, not from this program.
-use libc::STDOUT_FILENO;
+#![tactic(auto)]
+
 use lister::Listed;
+use std::io;
+use std::io::Write;
 use track_build::Built;
 
 // The longest input, and one byte more.
 const ROOM: usize = 8203;
 
-fn write(bytes: &[u8]) {
-    io::write_all(STDOUT_FILENO, bytes);
-}
-
-fn show(name: &[u8], input: &[u8]) {
-    write(name);
-    write(b"\n");
-    let mut out = [0u8; lister::LONGEST_LISTING];
-    let answer = lister::list_ring(input, &mut out);
+fn show<W: Write>(out: &mut W, name: &[u8], input: &[u8]) -> io::Result<()> {
+    out.write_all(name)?;
+    out.write_all(b"\n")?;
+    let mut listing = [0u8; lister::LONGEST_LISTING];
+    let answer = lister::list_ring(input, &mut listing);
     match answer {
-        Listed::Written(n) => write(page::so_far(&out, n)),
-        Listed::Refused(_) => write(b"no room\n"),
+        Listed::Written(n) => out.write_all(page::so_far(&listing, n)),
+        Listed::Refused(_) => out.write_all(b"no room\n"),
     }
 }
 
-fn show_first(name: &[u8], input: &[u8], n: usize) {
+fn show_first<W: Write>(out: &mut W, name: &[u8], input: &[u8], n: usize) -> io::Result<()> {
     if n <= input.len() {
-        show(name, &input[0..n]);
+        return show(out, name, &input[0..n]);
     }
+    Ok(())
 }
 
 // The ten bytes before a ring.
-#[derive(Drop)]
+#[derive(Clone, Copy)]
 struct Front {
     letter: u8,
     version: u16,
@@ -69,10 +69,10 @@ fn put_front(input: &mut [u8], h: Front) {
 }
 
 // An input of n bytes whose ring is all gap.
-fn show_gap(name: &[u8], h: Front, n: usize) {
+fn show_gap<W: Write>(out: &mut W, name: &[u8], h: Front, n: usize) -> io::Result<()> {
     let mut input = [0x55u8; ROOM];
     put_front(&mut input, h);
-    show_first(name, &input, n);
+    show_first(out, name, &input, n)
 }
 
 // A built track with a header before it; how long that is.
@@ -95,10 +95,16 @@ fn put_track(input: &mut [u8], h: Front, payloads: &[u8], codes: &[u8]) -> usize
     if n <= 8192 { n + 10 } else { 0 }
 }
 
-fn show_track(name: &[u8], h: Front, payloads: &[u8], codes: &[u8]) {
+fn show_track<W: Write>(
+    out: &mut W,
+    name: &[u8],
+    h: Front,
+    payloads: &[u8],
+    codes: &[u8],
+) -> io::Result<()> {
     let mut input = [0u8; ROOM];
     let n = put_track(&mut input, h, payloads, codes);
-    show_first(name, &input, n);
+    show_first(out, name, &input, n)
 }
 
 // The payload of sector j: byte 0 is 11 j + 5, byte 255 is F0, all others stay zeros.
@@ -126,13 +132,13 @@ fn put_slot(input: &mut [u8], other: &[u8]) {
 }
 
 // A ring of two slots, both sector 0 of track 31, 368 bytes each; the second is zeros.
-fn show_copies(name: &[u8], start: u32, payloads: &[u8]) {
+fn show_copies<W: Write>(out: &mut W, name: &[u8], start: u32, payloads: &[u8]) -> io::Result<()> {
     let mut input = [0u8; ROOM];
     let mut other = [0u8; ROOM];
     put_track(&mut input, of_track(31, start), payloads, b"");
     put_track(&mut other, of_track(31, start), b"", b"");
     put_slot(&mut input, &other);
-    show_first(name, &input, 746);
+    show_first(out, name, &input, 746)
 }
 
 fn of_version(version: u16) -> Front {
@@ -147,51 +153,64 @@ fn of_letter(letter: u8) -> Front {
     h
 }
 
-fn refusals() {
-    show_gap(b"empty", of_track(31, 0), 0);
-    show_gap(b"nine bytes", of_track(31, 0), 9);
-    show_gap(b"other letter", of_letter(b'k'), 12);
-    show_gap(b"version 2", of_version(2), 12);
-    show_gap(b"version 256", of_version(256), 12);
-    show_gap(b"version 257", of_version(257), 12);
-    show_gap(b"version 257, no ring", of_version(257), 10);
-    show_gap(b"version 2, ring of 8193", of_version(2), 8203);
-    show_gap(b"no ring", of_track(31, 0), 10);
-    show_gap(b"ring of 8193", of_track(31, 0), 8203);
+fn refusals<W: Write>(out: &mut W) -> io::Result<()> {
+    show_gap(out, b"empty", of_track(31, 0), 0)?;
+    show_gap(out, b"nine bytes", of_track(31, 0), 9)?;
+    show_gap(out, b"other letter", of_letter(b'k'), 12)?;
+    show_gap(out, b"version 2", of_version(2), 12)?;
+    show_gap(out, b"version 256", of_version(256), 12)?;
+    show_gap(out, b"version 257", of_version(257), 12)?;
+    show_gap(out, b"version 257, no ring", of_version(257), 10)?;
+    show_gap(out, b"version 2, ring of 8193", of_version(2), 8203)?;
+    show_gap(out, b"no ring", of_track(31, 0), 10)?;
+    show_gap(out, b"ring of 8193", of_track(31, 0), 8203)
 }
 
-fn gaps() {
-    show_gap(b"ring of 2", of_track(31, 0), 12);
-    show_gap(b"ring of 1, track 0", of_track(0, 7), 11);
-    show_gap(b"ring of 8192, track 255", of_track(255, 4294967295), 8202);
+fn gaps<W: Write>(out: &mut W) -> io::Result<()> {
+    show_gap(out, b"ring of 2", of_track(31, 0), 12)?;
+    show_gap(out, b"ring of 1, track 0", of_track(0, 7), 11)?;
+    show_gap(
+        out,
+        b"ring of 8192, track 255",
+        of_track(255, 4294967295),
+        8202,
+    )
 }
 
 // All sectors zero, a track of each zone.
-fn zeros(start: u32) {
-    show_track(b"zeros, track 1", of_track(1, start), b"", b"");
-    show_track(b"zeros, track 18", of_track(18, start), b"", b"");
-    show_track(b"zeros, track 25", of_track(25, start), b"", b"");
-    show_track(b"zeros, track 31", of_track(31, start), b"", b"");
+fn zeros<W: Write>(out: &mut W, start: u32) -> io::Result<()> {
+    show_track(out, b"zeros, track 1", of_track(1, start), b"", b"")?;
+    show_track(out, b"zeros, track 18", of_track(18, start), b"", b"")?;
+    show_track(out, b"zeros, track 25", of_track(25, start), b"", b"")?;
+    show_track(out, b"zeros, track 31", of_track(31, start), b"", b"")
 }
 
-fn others(payloads: &[u8]) {
-    show_track(b"payloads, track 17", of_track(17, 30000), payloads, b"");
+fn others<W: Write>(out: &mut W, payloads: &[u8]) -> io::Result<()> {
     show_track(
+        out,
+        b"payloads, track 17",
+        of_track(17, 30000),
+        payloads,
+        b"",
+    )?;
+    show_track(
+        out,
         b"codes, track 24",
         of_track(24, 0),
         payloads,
         b"\x01\x02\x03\x04\x05\x09\x0B\x06\x00\xFF",
-    );
-    show_copies(b"two copies", 0, payloads);
-    show_copies(b"two copies, from the second", 5890944, payloads);
+    )?;
+    show_copies(out, b"two copies", 0, payloads)?;
+    show_copies(out, b"two copies, from the second", 5890944, payloads)
 }
 
-fn main() {
-    refusals();
-    gaps();
-    zeros(0);
-    zeros(4294967295);
+fn main(rt: HostRuntime) -> io::Result<()> {
+    let mut out = rt.stdout();
+    refusals(&mut out)?;
+    gaps(&mut out)?;
+    zeros(&mut out, 0)?;
+    zeros(&mut out, 4294967295)?;
     let mut payloads = [0u8; 5376];
     put_payloads(&mut payloads);
-    others(&payloads);
+    others(&mut out, &payloads)
 }

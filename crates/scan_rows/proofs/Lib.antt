@@ -1,12 +1,3 @@
-pub mod Records
-pub mod Told
-pub mod Again
 pub mod Laying
 pub mod Refusing
-pub mod LocalPayload
-pub mod Calls
-pub mod Turning
-pub mod Leaving
 pub mod NthLaws
-pub mod LocalRows
-pub mod NthCalls

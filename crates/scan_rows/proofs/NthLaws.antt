@@ -1,5 +1,5 @@
 -- Record n of a scan, by the rows that it fills and the answer that it gives.
-use Prim.Native.Nat.{ℕ, zero, suc, ◌≤◌, ◌<◌}
+use Prim.Native.Nat.{ℕ, zero, suc, ◌<◌}
 use mathlib.Core.Path.{◌≡◌, refl, sym, ap, ◌∙◌}
 use mathlib.Core.Bool.{Bool, true, false}
 use mathlib.Core.List.{List, [], ◌∷◌, ◌++◌}
@@ -7,34 +7,19 @@ use lib.Dec.{eqb, ltb}
 use lib.ListN.{length, get_or, drop, length-append}
 use native.Mathlib.Omega.{arith}
 use Rattle.base.specs.Choice.{pick}
-use Rattle.base.proofs.Tests.{ltb_yes, ltb_no, leb_yes, lt_of}
+use Rattle.base.proofs.Tests.{ltb_yes, leb_yes, lt_of}
 use Rattle.base.proofs.Refusing.{unless_by}
 use Rattle.scan.specs.declared.SectorRecord.{SectorRecord}
 use Rattle.scan.specs.declared.BadSymbol.{BadSymbol}
-use Rattle.scan.specs.declared.Scanned.{Scanned}
 use Rattle.scan.specs.declared.Scanned.TheVariants.{Records, Refused}
 use Rattle.base.specs.Refusals.{unless}
 use Rattle.scan.specs.Scan.{zero_record, records, most_records}
 use Rattle.scan.specs.BadSymbols.{bad_symbol}
 use Rattle.scan.specs.Answers.{scan_refusal}
-use Rattle.scan_rows.specs.declared.Row.{Row}
-use Rattle.scan_rows.specs.Rows.{laid, refused_row, no_row, row_at}
+use Rattle.scan_rows.specs.Rows.{laid, refused_row, row_at}
 use Rattle.scan_rows.specs.Answers.{rows_refusal, scanned_into, rows_after, nth_record}
 use Rattle.scan_rows.specs.Inside.{of_scan}
 use Rattle.scan_rows.proofs.Refusing.{answer_by_lem, rows_by}
-
--- ---- `of_scan`
-pub of_scan_in : (row : Row) (n : ℕ) (answer : Scanned) (count : ℕ) (bad : BadSymbol) → answer ≡ Records count bad → n < count
-    → row ≡ of_scan row n answer
-of_scan_in row n answer count bad e h = rw (e, ltb_yes n count h)
-
-pub of_scan_past : (row : Row) (n : ℕ) (answer : Scanned) (count : ℕ) (bad : BadSymbol) → answer ≡ Records count bad → count ≤ n
-    → no_row ≡ of_scan row n answer
-of_scan_past row n answer count bad e h = rw (e, ltb_no n count h)
-
-pub of_scan_refused : (row : Row) (n : ℕ) (answer : Scanned) (number : ℕ) → answer ≡ Refused number
-    → refused_row number ≡ of_scan row n answer
-of_scan_refused row n answer number e = rw e
 
 -- ---- a row of what was laid
 in_front : (rs ys : List SectorRecord) (n : ℕ) (d : SectorRecord) → n < length rs → get_or (rs ++ ys) n d ≡ get_or rs n d

@@ -1,4 +1,6 @@
 // Sector records as a lent list of structs: row n stored and read by thin functions, and a scan that fills the rows.
+#![tactic(auto)]
+
 ghost use Rattle.std.specs.Prelude.{◌≡◌, ◌≤◌, leb, length};
 ghost use Rattle.ring.specs.Bit.{IsRing};
 ghost use Rattle.scan.specs.declared.Scanned.TheVariants.{Records};

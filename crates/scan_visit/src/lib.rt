@@ -18,7 +18,7 @@ use scan_sync::SyncEnd;
 
 // What stands at a sync end: a symbol outside the table, by the index of the first, no header of this track, one with a false checksum, by
 // its sector, or a true one, by its sector and both ids.
-#[derive(Drop)]
+#[derive(Clone, Copy)]
 pub enum HeaderAt {
     Illegal(u8),
     No,
@@ -28,7 +28,7 @@ pub enum HeaderAt {
 
 // What the data search of a header comes to: no sync end; and at a place a symbol outside the table, by the index of the first, a marker
 // that is none, a false checksum, another header, or a good block.
-#[derive(Drop)]
+#[derive(Clone, Copy)]
 pub enum DataAt {
     Nowhere,
     IllegalIn(usize, usize),
@@ -39,7 +39,7 @@ pub enum DataAt {
 }
 
 // A visit: the header, and what the data search comes to where that is a true one.
-#[derive(Drop)]
+#[derive(Clone, Copy)]
 pub struct Visited {
     pub header: HeaderAt,
     pub data: DataAt,

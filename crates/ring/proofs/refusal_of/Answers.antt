@@ -1,0 +1,13 @@
+use mathlib.Core.Path.{sym}
+use native.Mathlib.Omega.{arith}
+use Rattle.ring.proofs.RingRefusals.{refused_empty, refused-long, refused-not}
+use Rattle.ring.proofs.refusal_of.Goals as goal
+
+pub returns-then-bytes-eq0 : goal.returns-then-bytes-eq0
+returns-then-bytes-eq0 c = sym (refused_empty _ c.if-bytes-eq0.true)
+
+pub returns-then-bytes-gt-MAX_RING : goal.returns-then-bytes-gt-MAX_RING
+returns-then-bytes-gt-MAX_RING c = sym (refused-long _ c.if-bytes-eq0.false (omega arith))
+
+pub returns : goal.returns
+returns c = sym (refused-not _ c.if-bytes-eq0.false (omega arith))
