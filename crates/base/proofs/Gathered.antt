@@ -4,9 +4,9 @@
 --     bytes-there            the bytes that stand in a list's own bits are the list's
 --     bit-there              bit i of the bytes that stand at place p is the bit at p + i
 use Prim.Native.Nat.{ℕ, zero, suc, ◌+◌, ◌-◌, ◌*◌, ◌/◌, ◌%◌, ◌^◌, ◌≤◌, ◌<◌}
-use mathlib.Core.Path.{◌≡◌, refl, sym, ap, ap₂, ◌∙◌, subst}
-use mathlib.Core.List.{List, [], ◌∷◌, ◌++◌}
-use native.Mathlib.Nat.{mod-lt, div-eq_of_lt, add-zero, pow-zero, pow-suc, mul_assoc, mul-zero, mul-suc}
+use mathlib.Core.Path.{◌≡◌, refl, sym, ap, ◌∙◌}
+use mathlib.Core.List.{List, [], ◌∷◌}
+use native.Mathlib.Nat.{div-eq_of_lt, add-zero, pow-zero, pow-suc, mul_assoc, mul-zero, mul-suc}
 use native.Mathlib.Numerals.{add-one}
 use native.Mathlib.Omega.{arith}
 use native.Mathlib.Decide.{ℕ_discrete}

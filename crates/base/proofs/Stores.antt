@@ -1,27 +1,27 @@
 -- Several numbers stored into a list, and lists made by a rule in which one element changes.
 --     put_many                what is filled from the front, and a run of numbers more
---     sets-next               a loop that stores a run, a number a turn
 --     tab_put, joined_put     a table, and lists of one length one after the other, with element s changed
---     filled_more             a list filled with one value
+--     tab-filled, ..          a list filled with one value
 --     count-..                how many numbers of a list are a
-use Prim.Native.Nat.{ℕ, zero, suc, ◌+◌, ◌*◌, ◌≤◌, ◌<◌}
+--     put_part                a part written whole
+use Prim.Native.Nat.{ℕ, zero, suc, ◌+◌, ◌-◌, ◌*◌, ◌≤◌, ◌<◌}
 use mathlib.Core.Path.{◌≡◌, refl, sym, ap, ap₂, ◌∙◌}
 use mathlib.Core.Logic.{◌≢◌}
 use mathlib.Core.Bool.{Bool, true, false}
 use mathlib.Core.List.{List, [], ◌∷◌, ◌++◌, append-nil}
-use native.Mathlib.Numerals.{add-one}
+use Rattle.std.proofs.Common.{append_assoc}
 use native.Mathlib.Nat.{mul-zero, mul-suc}
 use native.Mathlib.Decide.{ℕ_discrete}
 use native.Mathlib.Omega.{arith}
 use lib.Dec.{eqb}
 use lib.ListN.{length, get_or, set, take, drop, replicate, length-set, length-append, length-drop, length-replicate, drop_of_length-le}
 use lib.ListN.{replicate-append-replicate}
-use lib.Seq.{sets, sets-eq, take_at, drop_at, drop-drop, take-suc, length-take-le, set-append_left, get_or-set_same, get_or-set_other}
+use borrow.Rule.Slice.PartMut.{put_mid}
+use lib.Seq.{sets, sets-eq, take_at, drop_at, drop-drop, set-append_left, get_or-set_same, get_or-set_other}
 use Rattle.base.specs.Choice.{pick}
 use Rattle.base.specs.Lists.{tab, joined, count_of}
 use Rattle.base.proofs.Tests.{eqb_yes, eqb_no}
-use Rattle.base.proofs.Lists.{length-tab, get_d_tab, is_tab, length-joined, off_mono, put_one}
-use Rattle.base.proofs.InRow.{sets_more}
+use Rattle.base.proofs.Lists.{length-tab, get_d_tab, is_tab, length-joined, off_mono}
 
 -- a run of numbers after what is filled: w is filled, the rest is as in d
 pub put_many : (w d vs : List ℕ) (m : ℕ) → length w ≡ m → m + length vs ≤ length d → sets (w ++ drop m d) m vs ≡ (w ++ vs) ++ drop
@@ -39,13 +39,6 @@ sets_left xs ys [] i h = refl
 sets_left xs ys (v ∷ vs) i h =
     ap (λ (l : List ℕ). sets l (suc i) vs) (set-append_left xs ys i v (omega arith))
     ∙ sets_left (set xs i v) ys vs (suc i) (omega (arith, length-set xs i v))
-
--- a loop that stores vs from `at` on, one more
-pub sets-next : (l vs : List ℕ) (at i : ℕ) → i < length vs → set (sets l at (take i vs)) (at + i) (get_or vs i 0) ≡ sets l at
-    (take (i + 1) vs)
-sets-next l vs at i h =
-    sets_more (take i vs) (get_or vs i 0 ∷ []) l at i (length-take-le i vs (omega arith))
-    ∙ ap (sets l at) (sym (take-suc vs i 0 h) ∙ ap (λ (n : ℕ). take n vs) (sym (add-one i)))
 
 -- a table with element s changed
 pub tab_put : (n s v : ℕ) (f g : ℕ → ℕ) → s < n → g s ≡ v → ((j : ℕ) → j ≢ s → g j ≡ f j) → set (tab n f) s v ≡ tab n g
@@ -98,11 +91,6 @@ module _ (k : ℕ) (f : ℕ → List ℕ) (sized : (j : ℕ) → length (f j) �
           ∙ ap₂ (λ (a b : List ℕ). a ++ b) (joined_same n f g (λ j l. sym (others j (λ z. absurd (omega arith))))) (sym e ∙ ap g q)
 
 -- ---- a list filled with one value
-pub filled_more : (d : List ℕ) (i v : ℕ) → i < length d → set (replicate i v ++ drop i d) i v ≡ replicate (i + 1) v ++ drop (i + 1) d
-filled_more d i v h =
-    put_one (replicate i v) d i v (length-replicate {A = ℕ} i v) h
-    ∙ ap (λ (l : List ℕ). l ++ drop (i + 1) d) (replicate-append-replicate {A = ℕ} i 1 v)
-
 pub tab-filled : (n v : ℕ) → replicate n v ≡ tab n (λ j. v)
 tab-filled n v = is_tab (replicate n v) n (λ j. v) (length-replicate {A = ℕ} n v) (λ k l. lib.ListN.get_or-replicate n k v 0 l)
 
@@ -137,3 +125,11 @@ pub count_none : (a v n : ℕ) → v ≢ a → count_of a (replicate n v) ≡ 0
 unfolding count_of
 count_none a v zero e = refl
 count_none a v (suc n) e = ap₂ (λ (b : Bool) (y : ℕ). pick b 1 0 + y) (eqb_no v a e) (count_none a v n e)
+
+-- ---- a part written whole: what it holds now are the numbers stored
+pub put_part : (l now vs : List ℕ) (at n : ℕ) → now ≡ vs → length vs ≡ n → at + n ≤ length l → put_mid at (at + n - at) l now ≡ sets l at vs
+put_part l now vs at n is e h =
+    let k : at + n - at ≡ length vs = omega arith in
+    rw (is, k)
+    (ap (λ (r : List ℕ). take at l ++ (vs ++ r)) (drop-drop (length vs) at l)
+    ∙ sym (append_assoc (take at l) vs (drop (at + length vs) l)) ∙ sym (sets-eq vs l at (omega arith)))

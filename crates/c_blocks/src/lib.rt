@@ -4,19 +4,11 @@
 #![tactic(auto)]
 
 ghost use Rattle.std.specs.Prelude.{◌≡◌};
-ghost use Rattle.gcr_blocks.specs.Answers.{coded_number, encode_refusal, encoded_out, decoded_number, decode_refusal, decoded, decoded_out};
+ghost use Rattle.gcr_blocks.specs.Answers.{encode_refusal, encoded_out, decoded_number, decode_refusal, decoded, decoded_out};
 ghost use Rattle.c_blocks.specs.Numbers.{symbol_after};
 
-use gcr_blocks::{BlockDecoded, Coded};
-
-fn number_of_coded(answer: Coded) -> u64
-    ensures { result ≡ coded_number answer }
-{
-    match answer {
-        Coded::Written(_) => 0,
-        Coded::Refused(number) => number as u64,
-    }
-}
+use base::Refusal;
+use gcr_blocks::Undecoded;
 
 // The code of a block of any length.
 #[unsafe(no_mangle)]
@@ -24,19 +16,19 @@ pub extern "C" fn fielbmaru_encode_block(bytes: &[u8], out: &mut [u8]) -> u64
     ensures { (result ≡ encode_refusal bytes.now out.old)
         × (out.new ≡ encoded_out bytes.now out.old) }
 {
-    number_of_coded(gcr_blocks::encode_gcr_block(bytes, out))
+    u64::from(base::refusal_number(&gcr_blocks::encode_gcr_block(bytes, out)))
 }
 
 // The index of a symbol outside the table told, and 13; or 0, or another refusal's number.
-fn tell_decoded(answer: BlockDecoded, symbol: &mut u64) -> u64
+fn tell_decoded(answer: Result<usize, Undecoded>, symbol: &mut u64) -> u64
     ensures { (result ≡ decoded_number answer) × (symbol.new ≡ symbol_after symbol.old answer) }
 {
     match answer {
-        BlockDecoded::Written(_) => 0,
-        BlockDecoded::Refused(number) => number as u64,
-        BlockDecoded::Illegal(k) => {
+        Ok(_) => 0,
+        Err(Undecoded::Refused(why)) => u64::from(why.number()),
+        Err(Undecoded::Illegal(k)) => {
             *symbol = k as u64;
-            base::ILLEGAL_SYMBOL as u64
+            u64::from(Refusal::IllegalSymbol.number())
         }
     }
 }

@@ -4,10 +4,11 @@ ghost use Rattle.std.specs.Prelude.{◌≡◌, length};
 ghost use Rattle.nib_orbit.specs.Orbit.{recovered};
 ghost use Rattle.nib_slots.specs.Slots.{slot_answer};
 ghost use Rattle.nib_write.specs.Encoding.{encoded_of, out_after as file_after};
-ghost use Rattle.c_captures.specs.Numbers.{slot_number, at_after, span_after, zone_after, encoded_number, written_after};
+ghost use Rattle.base.specs.Answers.{refusal_number};
+ghost use Rattle.c_captures.specs.Numbers.{at_after, span_after, zone_after, written_after};
 
-use nib_slots::NibSlot;
-use nib_write::Encoded;
+use base::Refusal;
+use nib_slots::SlotRing;
 
 // The span of a window's orbit: its first bytes, so many, are the ring; 0 where the window is not 8,192 bytes.
 #[unsafe(no_mangle)]
@@ -19,24 +20,29 @@ pub extern "C" fn fielbmaru_orbit(window: &[u8], zone: u8) -> u64
 }
 
 // A slot's three numbers told, and 0; or the refusal's number.
-fn tell_slot(answer: NibSlot, at: &mut u64, span: &mut u64, zone: &mut u64) -> u64
-    ensures { (result ≡ slot_number answer) × (at.new ≡ at_after at.old answer)
+fn tell_slot(
+    answer: Result<Option<SlotRing>, Refusal>,
+    at: &mut u64,
+    span: &mut u64,
+    zone: &mut u64,
+) -> u64
+    ensures { (result ≡ refusal_number answer) × (at.new ≡ at_after at.old answer)
         × (span.new ≡ span_after span.old answer) × (zone.new ≡ zone_after zone.old answer) }
 {
     match answer {
-        NibSlot::Ring(start, length, its_zone) => {
-            *at = start as u64;
-            *span = length as u64;
-            *zone = its_zone as u64;
+        Ok(Some(ring)) => {
+            *at = ring.start as u64;
+            *span = ring.length as u64;
+            *zone = u64::from(ring.zone);
             0
         }
-        NibSlot::Empty => {
+        Ok(None) => {
             *at = 0;
             *span = 0;
             *zone = 0;
             0
         }
-        NibSlot::Refused(number) => number as u64,
+        Err(why) => u64::from(why.number()),
     }
 }
 
@@ -49,7 +55,7 @@ pub extern "C" fn fielbmaru_nib_slot(
     span: &mut u64,
     zone: &mut u64,
 ) -> u64
-    ensures { (result ≡ slot_number (slot_answer image.now slot))
+    ensures { (result ≡ refusal_number (slot_answer image.now slot))
         × (at.new ≡ at_after at.old (slot_answer image.now slot))
         × (span.new ≡ span_after span.old (slot_answer image.now slot))
         × (zone.new ≡ zone_after zone.old (slot_answer image.now slot)) }
@@ -59,15 +65,15 @@ pub extern "C" fn fielbmaru_nib_slot(
 }
 
 // The number of bytes told, and 0; or the refusal's number.
-fn tell_encoded(answer: Encoded, written: &mut u64) -> u64
-    ensures { (result ≡ encoded_number answer) × (written.new ≡ written_after written.old answer) }
+fn tell_encoded(answer: Result<usize, Refusal>, written: &mut u64) -> u64
+    ensures { (result ≡ refusal_number answer) × (written.new ≡ written_after written.old answer) }
 {
     match answer {
-        Encoded::Written(size) => {
+        Ok(size) => {
             *written = size as u64;
             0
         }
-        Encoded::Refused(number) => number as u64,
+        Err(why) => u64::from(why.number()),
     }
 }
 
@@ -80,7 +86,7 @@ pub extern "C" fn fielbmaru_encode_nib(
     out: &mut [u8],
     written: &mut u64,
 ) -> u64
-    ensures { (result ≡ encoded_number (encoded_of lengths.now rings.now out.old))
+    ensures { (result ≡ refusal_number (encoded_of lengths.now rings.now out.old))
         × (written.new ≡ written_after written.old
         (encoded_of lengths.now rings.now out.old))
         × (out.new ≡ file_after lengths.now zones.now rings.now out.old) }

@@ -2,22 +2,24 @@
 // number, and then nothing lent has changed. The names begin with the library's, since a name is the whole program's, as in C.
 ghost use Rattle.std.specs.Prelude.{◌≡◌};
 ghost use Rattle.reclaim.specs.Images.{cleared_d64, cleared_g64, cleared_nib};
-ghost use Rattle.c_clearing.specs.Numbers.{cleared_number, free_after, changed_after};
+ghost use Rattle.base.specs.Answers.{refusal_number};
+ghost use Rattle.c_clearing.specs.Numbers.{free_after, changed_after};
 
-use reclaim::Outcome;
+use base::Refusal;
+use reclaim::Counts;
 
 // The two counts of clearing told, and 0; or the refusal's number.
-fn tell_cleared(answer: Outcome, free_sectors: &mut u64, changed: &mut u64) -> u64
-    ensures { (result ≡ cleared_number answer) × (free_sectors.new ≡ free_after free_sectors.old answer)
+fn tell_cleared(answer: Result<Counts, Refusal>, free_sectors: &mut u64, changed: &mut u64) -> u64
+    ensures { (result ≡ refusal_number answer) × (free_sectors.new ≡ free_after free_sectors.old answer)
         × (changed.new ≡ changed_after changed.old answer) }
 {
     match answer {
-        Outcome::Cleared { free, changed: n } => {
-            *free_sectors = free as u64;
-            *changed = n as u64;
+        Ok(counts) => {
+            *free_sectors = counts.free as u64;
+            *changed = counts.changed as u64;
             0
         }
-        Outcome::Refused(number) => number as u64,
+        Err(why) => u64::from(why.number()),
     }
 }
 
@@ -28,7 +30,7 @@ pub extern "C" fn fielbmaru_clear_d64(
     free_sectors: &mut u64,
     changed: &mut u64,
 ) -> u64
-    ensures { (result ≡ cleared_number (cleared_d64 image.old).outcome)
+    ensures { (result ≡ refusal_number (cleared_d64 image.old).outcome)
         × (image.new ≡ (cleared_d64 image.old).image)
         × (free_sectors.new ≡ free_after free_sectors.old (cleared_d64 image.old).outcome)
         × (changed.new ≡ changed_after changed.old (cleared_d64 image.old).outcome) }
@@ -43,7 +45,7 @@ pub extern "C" fn fielbmaru_clear_g64(
     free_sectors: &mut u64,
     changed: &mut u64,
 ) -> u64
-    ensures { (result ≡ cleared_number (cleared_g64 image.old).outcome)
+    ensures { (result ≡ refusal_number (cleared_g64 image.old).outcome)
         × (image.new ≡ (cleared_g64 image.old).image)
         × (free_sectors.new ≡ free_after free_sectors.old (cleared_g64 image.old).outcome)
         × (changed.new ≡ changed_after changed.old (cleared_g64 image.old).outcome) }
@@ -58,7 +60,7 @@ pub extern "C" fn fielbmaru_clear_nib(
     free_sectors: &mut u64,
     changed: &mut u64,
 ) -> u64
-    ensures { (result ≡ cleared_number (cleared_nib image.old).outcome)
+    ensures { (result ≡ refusal_number (cleared_nib image.old).outcome)
         × (image.new ≡ (cleared_nib image.old).image)
         × (free_sectors.new ≡ free_after free_sectors.old (cleared_nib image.old).outcome)
         × (changed.new ≡ changed_after changed.old (cleared_nib image.old).outcome) }

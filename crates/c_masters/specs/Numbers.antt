@@ -1,13 +1,7 @@
--- What the library's function on masters answers to C: 0 where done, else the refusal's number. And what the lent number then is: the
--- master's size, or as it came where refused.
-use Rattle.std.specs.Prelude.{ℕ}
-use Rattle.g64_write.specs.declared.Mastered.{Mastered}
-use Rattle.g64_write.specs.declared.Mastered.TheVariants.{Written, Refused}
+-- What the number lent to the library's function on masters then is: the master's size, or as it came where it is refused.
+use Rattle.std.specs.Prelude.{ℕ, Result, Ok, Err}
+use Rattle.base.specs.declared.Refusal.{Refusal}
 
-abbrev pub mastered_number : Mastered → ℕ
-mastered_number (Written size) = 0
-mastered_number (Refused number) = number
-
-abbrev pub written_after : ℕ → Mastered → ℕ
-written_after written (Written size) = size
-written_after written (Refused number) = written
+abbrev pub written_after : ℕ → Result ℕ Refusal → ℕ
+written_after written (Ok size) = size
+written_after written (Err why) = written

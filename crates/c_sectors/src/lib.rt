@@ -1,21 +1,23 @@
 // The sectors of the library that C and Rust programs link, one at a time: each function answers 0 when it is done, or the refusal's
 // number, and then nothing lent has changed. The names begin with the library's, since a name is the whole program's, as in C.
+#![tactic(auto)]
+
 ghost use Rattle.std.specs.Prelude.{◌≡◌};
+ghost use Rattle.base.specs.Answers.{refusal_number};
 ghost use Rattle.sector.specs.Rules.{read_unique, read_consistent};
 ghost use Rattle.sector.specs.Replacing.{answer_of, replaced_unique, replaced_consistent};
-ghost use Rattle.c_sectors.specs.Numbers.{sector_number, bytes_after, replaced_number};
+ghost use Rattle.c_sectors.specs.Numbers.{sector_number, bytes_after};
 
-use base::Sector;
-use sector::Replaced;
+use base::{Refusal, Sector};
 
 // A sector that reads handed out, and 0; or the refusal's number.
 fn hand_out(found: Sector, out: &mut [u8; 256]) -> u64
     ensures { (result ≡ sector_number found) × (out.new ≡ bytes_after out.old found) }
 {
-    let number = found.number as u64;
     if !found.ok {
-        return number;
+        return u64::from(found.number);
     }
+    // By a variable: a field that is an array is not stored straight.
     let bytes = found.bytes;
     *out = bytes;
     0
@@ -51,13 +53,11 @@ pub extern "C" fn fielbmaru_read_consistent(
     hand_out(read.sector, out)
 }
 
-fn number_of_replaced(answer: Replaced) -> u64
-    ensures { result ≡ replaced_number answer }
+// 0 where a sector is replaced; or the refusal's number.
+fn number_of<T: Drop>(answer: Result<T, Refusal>) -> u64
+    ensures { result ≡ refusal_number answer }
 {
-    match answer {
-        Replaced::Written(_) => 0,
-        Replaced::Refused(number) => number as u64,
-    }
+    u64::from(base::refusal_number(&answer))
 }
 
 // Replaces a sector by the unique rule.
@@ -68,10 +68,10 @@ pub extern "C" fn fielbmaru_replace_unique(
     sector: u8,
     data: &[u8; 256],
 ) -> u64
-    ensures { (result ≡ replaced_number (answer_of (read_unique ring.old track sector)))
+    ensures { (result ≡ refusal_number (answer_of (read_unique ring.old track sector)))
         × (ring.new ≡ replaced_unique track sector «data».now ring.old) }
 {
-    number_of_replaced(sector::replace_sector_data_unique(ring, track, sector, data))
+    number_of(sector::replace_sector_data_unique(ring, track, sector, data))
 }
 
 // Replaces a sector by the consistent rule, each of its copies.
@@ -82,8 +82,8 @@ pub extern "C" fn fielbmaru_replace_consistent(
     sector: u8,
     data: &[u8; 256],
 ) -> u64
-    ensures { (result ≡ replaced_number (answer_of (read_consistent ring.old track sector)))
+    ensures { (result ≡ refusal_number (answer_of (read_consistent ring.old track sector)))
         × (ring.new ≡ replaced_consistent track sector «data».now ring.old) }
 {
-    number_of_replaced(sector::replace_sector_data_consistent(ring, track, sector, data))
+    number_of(sector::replace_sector_data_consistent(ring, track, sector, data))
 }

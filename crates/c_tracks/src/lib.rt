@@ -3,24 +3,22 @@
 #![tactic(auto)]
 
 ghost use Rattle.std.specs.Prelude.{◌≡◌};
+ghost use Rattle.base.specs.Answers.{refusal_number};
 ghost use Rattle.track_build.specs.Answers.{built, out_after as track_after};
 ghost use Rattle.scan.specs.Answers.{scanned, rows_after, payloads_after};
 ghost use Rattle.track_read.specs.Answers.{track_read, track_payloads, track_statuses};
 ghost use Rattle.scan_rows.specs.Answers.{scanned_into, rows_after as records_after};
-ghost use Rattle.c_tracks.specs.Numbers.{built_number, scanned_number, count_after, bad_after, track_number, found_after, bad_found};
+ghost use Rattle.c_tracks.specs.Numbers.{count_after, bad_after, found_after, bad_found};
 ghost use Rattle.c_tracks.specs.Numbers.{bad_block as block_of_bad, bad_index, bad_bit as bit_of_bad};
 
-use scan::{BadSymbol, Scanned, SectorRecord};
-use track_build::Built;
-use track_read::TrackRead;
+use base::Refusal;
+use scan::{BadSymbol, SectorRecord};
 
-fn number_of_built(answer: Built) -> u64
-    ensures { result ≡ built_number answer }
+// 0 where a function is done; or the refusal's number.
+fn number_of<T: Drop>(answer: &Result<T, Refusal>) -> u64
+    ensures { result ≡ refusal_number answer.now }
 {
-    match answer {
-        Built::Written(_) => 0,
-        Built::Refused(number) => number as u64,
-    }
+    u64::from(base::refusal_number(answer))
 }
 
 // A track of these payloads, 256 bytes a sector, with what the codes change.
@@ -33,55 +31,40 @@ pub extern "C" fn fielbmaru_build_track(
     id2: u8,
     out: &mut [u8],
 ) -> u64
-    ensures { (result ≡ built_number (built track payloads.now out.old))
+    ensures { (result ≡ refusal_number (built track payloads.now out.old))
         × (out.new ≡ track_after track payloads.now codes.now id1 id2 out.old) }
 {
-    number_of_built(track_build::build_track_with_errors(track, payloads, codes, id1, id2, out))
+    number_of(&track_build::build_track_with_errors(track, payloads, codes, id1, id2, out))
 }
 
-// A bad symbol as three numbers.
-fn tell_bad(bad: BadSymbol, block: &mut u64, symbol: &mut u64, bit: &mut u64)
-    ensures { (block.new ≡ block_of_bad bad) × (symbol.new ≡ bad_index bad) × (bit.new ≡ bit_of_bad bad) }
-{
-    match bad {
-        BadSymbol::NoneMet => {
-            *block = 0;
-            *symbol = 0;
-            *bit = 0;
-        }
-        BadSymbol::InHeader(k, at) => {
-            *block = 1;
-            *symbol = k as u64;
-            *bit = at as u64;
-        }
-        BadSymbol::InData(k, at) => {
-            *block = 2;
-            *symbol = k as u64;
-            *bit = at as u64;
-        }
-    }
-}
-
-// The number of records and the bad symbol told, and 0; or the refusal's number.
-fn tell_scanned(
-    answer: Scanned,
+// How many were found, and the first bad symbol as three numbers.
+fn tell(
+    found: usize,
+    bad: Option<BadSymbol>,
     count: &mut u64,
     block: &mut u64,
     symbol: &mut u64,
     bit: &mut u64,
-) -> u64
-    ensures { (result ≡ scanned_number answer) × (count.new ≡ count_after count.old answer)
-        × (block.new ≡ bad_after block_of_bad block.old answer)
-        × (symbol.new ≡ bad_after bad_index symbol.old answer)
-        × (bit.new ≡ bad_after bit_of_bad bit.old answer) }
+)
+    ensures { (count.new ≡ found) × (block.new ≡ block_of_bad bad) × (symbol.new ≡ bad_index bad) × (bit.new ≡ bit_of_bad bad) }
 {
-    match answer {
-        Scanned::Records(n, bad) => {
-            *count = n as u64;
-            tell_bad(bad, block, symbol, bit);
-            0
+    *count = found as u64;
+    match bad {
+        None => {
+            *block = 0;
+            *symbol = 0;
+            *bit = 0;
         }
-        Scanned::Refused(number) => number as u64,
+        Some(BadSymbol::InHeader(k, at)) => {
+            *block = 1;
+            *symbol = k as u64;
+            *bit = at as u64;
+        }
+        Some(BadSymbol::InData(k, at)) => {
+            *block = 2;
+            *symbol = k as u64;
+            *bit = at as u64;
+        }
     }
 }
 
@@ -98,7 +81,7 @@ pub extern "C" fn fielbmaru_scan(
     bad_symbol: &mut u64,
     bad_bit: &mut u64,
 ) -> u64
-    ensures value { (result ≡ scanned_number (scanned ring.now track start_bit rows.old payloads.old))
+    ensures value { (result ≡ refusal_number (scanned ring.now track start_bit rows.old payloads.old))
         × (count.new ≡ count_after count.old
         (scanned ring.now track start_bit rows.old payloads.old)) }
     ensures rows_after { (rows.new ≡ rows_after ring.now track start_bit rows.old payloads.old)
@@ -111,7 +94,17 @@ pub extern "C" fn fielbmaru_scan(
         (scanned ring.now track start_bit rows.old payloads.old)) }
 {
     let answer = scan::scan_sector_records(ring, track, start_bit as usize, rows, payloads);
-    tell_scanned(answer, count, bad_block, bad_symbol, bad_bit)
+    if let Ok(found) = answer {
+        tell(
+            found.records,
+            found.bad,
+            count,
+            bad_block,
+            bad_symbol,
+            bad_bit,
+        );
+    }
+    number_of(&answer)
 }
 
 // The same in a lent list of records: `struct fielbmaru_record` in C.
@@ -126,7 +119,7 @@ pub extern "C" fn fielbmaru_scan_records(
     bad_symbol: &mut u64,
     bad_bit: &mut u64,
 ) -> u64
-    ensures { (result ≡ scanned_number (scanned_into ring.now track start_bit records.old))
+    ensures { (result ≡ refusal_number (scanned_into ring.now track start_bit records.old))
         × (count.new ≡ count_after count.old
         (scanned_into ring.now track start_bit records.old))
         × (records.new ≡ records_after ring.now track start_bit records.old)
@@ -138,30 +131,17 @@ pub extern "C" fn fielbmaru_scan_records(
         (scanned_into ring.now track start_bit records.old)) }
 {
     let answer = scan_rows::scan_into_rows(ring, track, start_bit as usize, records);
-    tell_scanned(answer, count, bad_block, bad_symbol, bad_bit)
-}
-
-// The number of sectors and the bad symbol told, and 0; or the refusal's number.
-fn tell_found(
-    answer: TrackRead,
-    found: &mut u64,
-    block: &mut u64,
-    symbol: &mut u64,
-    bit: &mut u64,
-) -> u64
-    ensures { (result ≡ track_number answer) × (found.new ≡ found_after found.old answer)
-        × (block.new ≡ bad_found block_of_bad block.old answer)
-        × (symbol.new ≡ bad_found bad_index symbol.old answer)
-        × (bit.new ≡ bad_found bit_of_bad bit.old answer) }
-{
-    match answer {
-        TrackRead::Found(n, bad) => {
-            *found = n as u64;
-            tell_bad(bad, block, symbol, bit);
-            0
-        }
-        TrackRead::Refused(number) => number as u64,
+    if let Ok(found) = answer {
+        tell(
+            found.records,
+            found.bad,
+            count,
+            bad_block,
+            bad_symbol,
+            bad_bit,
+        );
     }
+    number_of(&answer)
 }
 
 // The payloads of a track's sectors, each by its first record, and their statuses.
@@ -177,7 +157,7 @@ pub extern "C" fn fielbmaru_decode_track(
     bad_symbol: &mut u64,
     bad_bit: &mut u64,
 ) -> u64
-    ensures value { (result ≡ track_number (track_read ring.now track start_bit payloads.old statuses.old))
+    ensures value { (result ≡ refusal_number (track_read ring.now track start_bit payloads.old statuses.old))
         × (found.new ≡ found_after found.old
         (track_read ring.now track start_bit payloads.old statuses.old)) }
     ensures payloads_after { (payloads.new
@@ -191,5 +171,8 @@ pub extern "C" fn fielbmaru_decode_track(
         (track_read ring.now track start_bit payloads.old statuses.old)) }
 {
     let answer = track_read::decode_track_from(ring, track, start_bit as usize, payloads, statuses);
-    tell_found(answer, found, bad_block, bad_symbol, bad_bit)
+    if let Ok(read) = answer {
+        tell(read.found, read.bad, found, bad_block, bad_symbol, bad_bit);
+    }
+    number_of(&answer)
 }

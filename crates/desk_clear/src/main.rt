@@ -2,30 +2,25 @@
 // standard error. Refused, only that line is written; of a file over 1 MiB only that it is too long.
 #![tactic(auto)]
 
-use reclaim::Outcome;
+use page::Page;
+use reclaim::Counts;
 use std::io;
 use std::io::{Read, Write};
 
-fn refuse<W: Write>(err: &mut W, number: u8) -> io::Result<()> {
+fn tell<W: Write>(err: &mut W, counts: Counts) -> io::Result<()> {
     let mut line = [0u8; 128];
-    let n = page_lines::refused_line(&mut line, 0, number);
-    err.write_all(page::so_far(&line, n))
-}
-
-fn tell<W: Write>(err: &mut W, free: usize, changed: usize) -> io::Result<()> {
-    let mut line = [0u8; 128];
-    let n = page_lines::cleared_line(&mut line, 0, free, changed);
-    err.write_all(page::so_far(&line, n))
+    let mut page = Page::new(&mut line);
+    page_lines::cleared_line(&mut page, counts.free, counts.changed);
+    err.write_all(page.written())
 }
 
 fn clear<O: Write, E: Write>(out: &mut O, err: &mut E, image: &mut [u8]) -> io::Result<()> {
-    let outcome = reclaim::clear_any(image);
-    match outcome {
-        Outcome::Cleared { free, changed } => {
+    match reclaim::clear_any(image) {
+        Ok(counts) => {
             out.write_all(image)?;
-            tell(err, free, changed)
+            tell(err, counts)
         }
-        Outcome::Refused(number) => refuse(err, number),
+        Err(why) => desk_io::refuse(err, why),
     }
 }
 
@@ -35,10 +30,9 @@ fn run<R: Read, O: Write, E: Write>(
     err: &mut E,
     buffer: &mut [u8],
 ) -> io::Result<()> {
-    let n = desk_io::fill(input, buffer)?;
-    if n == buffer.len() {
-        return err.write_all(b"too long\n");
-    }
+    let Some(n) = desk_io::read_image(input, err, buffer)? else {
+        return Ok(());
+    };
     clear(out, err, &mut buffer[..n])
 }
 

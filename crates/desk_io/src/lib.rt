@@ -1,11 +1,18 @@
-// What the programs share of input: lent bytes filled from a reader. Output goes by std's own `write_all`.
+// What the programs share: lent bytes filled from a reader, an image read, the line of a refusal. Other output goes by std's own
+// `write_all`.
 #![tactic(auto)]
 
-ghost use Rattle.std.specs.Prelude.{◌≡◌, ℕ, ◌+◌, ◌-◌, ◌<◌, ◌≤◌, length, take, drop, IfOk, OnErr};
+ghost use Rattle.std.specs.Prelude.{◌≡◌, ℕ, ◌+◌, ◌-◌, ◌<◌, ◌≤◌, length, take, drop, None, IfSome, IfOk, OnOk, OnErr};
 ghost use Rattle.std.specs.Io.{ReadsAtMost};
-ghost use Rattle.std.specs.Io.KnownBytes.{Consumes, IsAtEnd, Keeps};
+ghost use Rattle.std.specs.Io.KnownBytes.{Appends, Consumes, IsAtEnd, Keeps};
+ghost use Rattle.base.specs.Answers.{number_of};
+ghost use Rattle.page.specs.Page.{all_of};
+ghost use Rattle.page_lines.specs.Answers.{refused_line};
+ghost use Rattle.desk_io.specs.Words.{too_long};
 
-use std::io::{Error, ErrorKind, Read, Result};
+use base::Refusal;
+use page::Page;
+use std::io::{Error, ErrorKind, Read, Result, Write};
 
 // One read, tried again where a signal interrupts it.
 fn read_retrying<R: Read>(reader: &mut R, buffer: &mut [u8]) -> Result<usize>
@@ -56,6 +63,38 @@ pub fn fill<R: Read>(reader: &mut R, buffer: &mut [u8]) -> Result<usize>
         done += n;
     }
     Ok(done)
+}
+
+// An image read into the lent room: how long it is. Of one that fills the room only that it is too long is told.
+pub fn read_image<R: Read, E: Write>(
+    input: &mut R,
+    err: &mut E,
+    room: &mut [u8],
+) -> Result<Option<usize>>
+    ensures fits { IfOk result (λ read. IfSome read (λ n. n < length room.new)) }
+    ensures bytes { IfOk result (λ read. IfSome read (λ n. Consumes (R.remaining input.old) (R.remaining input.new) (take n room.new))) }
+    ensures end { IfOk result (λ read. IfSome read (λ n. IsAtEnd (R.remaining input.new))) }
+    ensures none_lost { OnErr result ((k : ℕ) × Consumes (R.remaining input.old) (R.remaining input.new) (take k room.new)) }
+    ensures silent { IfOk result (λ read. IfSome read (λ n. Keeps (E.contents err.old) (E.contents err.new))) }
+    ensures told { IfOk result (λ read. read ≡ None → Appends (E.contents err.old) (E.contents err.new) too_long) }
+    ensures filled { IfOk result (λ read. read ≡ None → Consumes (R.remaining input.old) (R.remaining input.new) room.new) }
+{
+    let n = fill(input, room)?;
+    if n == room.len() {
+        err.write_all(b"too long\n")?;
+        return Ok(None);
+    }
+    Ok(Some(n))
+}
+
+// The line of a refusal.
+pub fn refuse<W: Write>(err: &mut W, why: Refusal) -> Result<()>
+    ensures { OnOk result (Appends (W.contents err.old) (W.contents err.new) (all_of (refused_line (number_of why)))) }
+{
+    let mut line = [0u8; 128];
+    let mut page = Page::new(&mut line);
+    page_lines::refused_line(&mut page, why.number());
+    err.write_all(page.written())
 }
 
 #[cfg(test)]

@@ -1,4 +1,5 @@
-use crate::fill;
+use crate::{fill, read_image, refuse};
+use base::Refusal;
 use std::io::{Error, ErrorKind, Read, Result};
 
 // Gives one byte, is interrupted once, gives another, and fails from then on.
@@ -56,5 +57,26 @@ fn answers_a_failed_read(rt: HostRuntime) -> Result<()> {
         Err(e) => assert!(rt; e.kind() == ErrorKind::Other),
     }
     assert!(rt; room == [0, 2, 7, 7]);
+    Ok(())
+}
+
+#[test]
+fn tells_that_an_image_is_too_long(rt: HostRuntime) -> Result<()> {
+    let mut room = [0u8; 4];
+    let mut told = Vec::new(rt.alloc());
+    let mut image: &[u8] = b"abc";
+    let n = read_image(&mut image, &mut told, &mut room)?;
+    assert!(rt; n == Some(3) && room == *b"abc\0" && told.is_empty());
+    let mut image: &[u8] = b"abcd";
+    let n = read_image(&mut image, &mut told, &mut room)?;
+    assert!(rt; n.is_none() && told.as_slice() == b"too long\n".as_slice());
+    Ok(())
+}
+
+#[test]
+fn tells_a_refusal_by_its_number(rt: HostRuntime) -> Result<()> {
+    let mut told = Vec::new(rt.alloc());
+    refuse(&mut told, Refusal::WrongImage)?;
+    assert!(rt; told.as_slice() == b"refused 3\n".as_slice());
     Ok(())
 }

@@ -1,7 +1,6 @@
 // The ring lister: reads an envelope and its ring from standard input, and prints the listing.
 #![tactic(auto)]
 
-use lister::Listed;
 use std::io;
 use std::io::Write;
 
@@ -12,8 +11,8 @@ fn list<W: Write>(out: &mut W, input: &[u8]) -> io::Result<()> {
     let mut listing = [0u8; lister::LONGEST_LISTING];
     let answer = lister::list_ring(input, &mut listing);
     match answer {
-        Listed::Written(n) => out.write_all(&listing[..n]),
-        Listed::Refused(_) => Ok(()),
+        Ok(n) => out.write_all(&listing[..n]),
+        Err(_) => Ok(()),
     }
 }
 

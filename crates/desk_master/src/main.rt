@@ -2,20 +2,15 @@
 // to standard error. Refused, only that line is written; of a file over 1 MiB only that it is too long.
 #![tactic(auto)]
 
-use g64_write::Mastered;
+use page::Page;
 use std::io;
 use std::io::{Read, Write};
 
-fn refuse<W: Write>(err: &mut W, number: u8) -> io::Result<()> {
-    let mut line = [0u8; 128];
-    let n = page_lines::refused_line(&mut line, 0, number);
-    err.write_all(page::so_far(&line, n))
-}
-
 fn tell<W: Write>(err: &mut W, d64: &[u8], bytes: usize) -> io::Result<()> {
-    let mut page = [0u8; 8192];
-    let n = page_master::put_master(&mut page, 0, d64, bytes);
-    err.write_all(page::so_far(&page, n))
+    let mut room = [0u8; 8192];
+    let mut page = Page::new(&mut room);
+    page_master::put_master(&mut page, d64, bytes);
+    err.write_all(page.written())
 }
 
 fn write<O: Write, E: Write>(
@@ -24,13 +19,12 @@ fn write<O: Write, E: Write>(
     d64: &[u8],
     master: &mut [u8],
 ) -> io::Result<()> {
-    let answer = g64_write::d64_to_g64(d64, master);
-    match answer {
-        Mastered::Written(bytes) => {
+    match g64_write::d64_to_g64(d64, master) {
+        Ok(bytes) => {
             out.write_all(page::so_far(master, bytes))?;
             tell(err, d64, bytes)
         }
-        Mastered::Refused(number) => refuse(err, number),
+        Err(why) => desk_io::refuse(err, why),
     }
 }
 
@@ -41,10 +35,9 @@ fn run<R: Read, O: Write, E: Write>(
     buffer: &mut [u8],
     master: &mut [u8],
 ) -> io::Result<()> {
-    let n = desk_io::fill(input, buffer)?;
-    if n == buffer.len() {
-        return err.write_all(b"too long\n");
-    }
+    let Some(n) = desk_io::read_image(input, err, buffer)? else {
+        return Ok(());
+    };
     write(out, err, &buffer[..n], master)
 }
 

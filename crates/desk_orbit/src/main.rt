@@ -3,29 +3,23 @@
 #![tactic(auto)]
 
 ghost use Rattle.std.specs.Prelude.{◌≡◌, ◌≤◌};
-ghost use Rattle.nib_catalogue.specs.declared.Pairs.TheVariants.{Count};
 ghost use Rattle.nib_catalogue.specs.Catalogue.{catalogue_of};
 
-use nib_catalogue::Pairs;
+use page::Page;
 use std::io;
 use std::io::{Read, Write};
 
-fn refuse<W: Write>(err: &mut W, number: u8) -> io::Result<()> {
-    let mut line = [0u8; 128];
-    let n = page_lines::refused_line(&mut line, 0, number);
-    err.write_all(page::so_far(&line, n))
-}
-
 fn put_line<W: Write>(out: &mut W, file: &[u8], pairs: usize, slot: usize) -> io::Result<()>
-    requires { (catalogue_of file.now ≡ Count pairs) × (slot ≤ 83) }
+    requires { (catalogue_of file.now ≡ Ok pairs) × (slot ≤ 83) }
 {
-    let mut page = [0u8; 2048];
-    let n = page_slot::put_slot(&mut page, 0, file, pairs, slot);
-    out.write_all(page::so_far(&page, n))
+    let mut room = [0u8; 2048];
+    let mut page = Page::new(&mut room);
+    page_slot::put_slot(&mut page, file, pairs, slot);
+    out.write_all(page.written())
 }
 
 fn put_lines<W: Write>(out: &mut W, file: &[u8], pairs: usize) -> io::Result<()>
-    requires { catalogue_of file.now ≡ Count pairs }
+    requires { catalogue_of file.now ≡ Ok pairs }
 {
     for slot in 0..84 {
         put_line(out, file, pairs, slot)?;
@@ -35,10 +29,9 @@ fn put_lines<W: Write>(out: &mut W, file: &[u8], pairs: usize) -> io::Result<()>
 
 // The catalogue is read once, for all slots.
 fn list<O: Write, E: Write>(out: &mut O, err: &mut E, file: &[u8]) -> io::Result<()> {
-    let pairs = nib_catalogue::read_catalogue(file);
-    match pairs {
-        Pairs::Count(n) => put_lines(out, file, n),
-        Pairs::Refused(number) => refuse(err, number),
+    match nib_catalogue::read_catalogue(file) {
+        Ok(pairs) => put_lines(out, file, pairs),
+        Err(why) => desk_io::refuse(err, why),
     }
 }
 
@@ -48,10 +41,9 @@ fn run<R: Read, O: Write, E: Write>(
     err: &mut E,
     buffer: &mut [u8],
 ) -> io::Result<()> {
-    let n = desk_io::fill(input, buffer)?;
-    if n == buffer.len() {
-        return err.write_all(b"too long\n");
-    }
+    let Some(n) = desk_io::read_image(input, err, buffer)? else {
+        return Ok(());
+    };
     list(out, err, &buffer[..n])
 }
 

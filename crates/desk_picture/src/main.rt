@@ -2,19 +2,15 @@
 // error.
 #![tactic(auto)]
 
+use page::Page;
 use std::io;
 use std::io::{Read, Write};
 
-fn refuse<W: Write>(err: &mut W, number: u8) -> io::Result<()> {
-    let mut line = [0u8; 128];
-    let n = page_lines::refused_line(&mut line, 0, number);
-    err.write_all(page::so_far(&line, n))
-}
-
 fn put_track<W: Write>(out: &mut W, image: &[u8], track: u8) -> io::Result<()> {
-    let mut page = [0u8; 8192];
-    let n = page_side::put_arcs(&mut page, 0, image, track);
-    out.write_all(page::so_far(&page, n))
+    let mut room = [0u8; 8192];
+    let mut page = Page::new(&mut room);
+    page_side::put_arcs(&mut page, image, track);
+    out.write_all(page.written())
 }
 
 fn put_tracks<W: Write>(out: &mut W, image: &[u8]) -> io::Result<()> {
@@ -25,26 +21,26 @@ fn put_tracks<W: Write>(out: &mut W, image: &[u8]) -> io::Result<()> {
 }
 
 fn put_head<W: Write>(out: &mut W) -> io::Result<()> {
-    let mut page = [0u8; 512];
-    let n = page_side::put_svg_head(&mut page, 0);
-    out.write_all(page::so_far(&page, n))
+    let mut room = [0u8; 512];
+    let mut page = Page::new(&mut room);
+    page_side::put_svg_head(&mut page);
+    out.write_all(page.written())
 }
 
 fn put_end<W: Write>(out: &mut W) -> io::Result<()> {
-    let mut page = [0u8; 1024];
-    let n = page_side::put_svg_end(&mut page, 0);
-    out.write_all(page::so_far(&page, n))
+    let mut room = [0u8; 1024];
+    let mut page = Page::new(&mut room);
+    page_side::put_svg_end(&mut page);
+    out.write_all(page.written())
 }
 
 fn draw<O: Write, E: Write>(out: &mut O, err: &mut E, image: &[u8]) -> io::Result<()> {
-    let fault = image_kind::image_fault(image);
-    if fault == 0 {
-        put_head(out)?;
-        put_tracks(out, image)?;
-        put_end(out)
-    } else {
-        refuse(err, fault)
+    if let Err(why) = image_kind::image_fault(image) {
+        return desk_io::refuse(err, why);
     }
+    put_head(out)?;
+    put_tracks(out, image)?;
+    put_end(out)
 }
 
 fn run<R: Read, O: Write, E: Write>(
@@ -53,10 +49,9 @@ fn run<R: Read, O: Write, E: Write>(
     err: &mut E,
     buffer: &mut [u8],
 ) -> io::Result<()> {
-    let n = desk_io::fill(input, buffer)?;
-    if n == buffer.len() {
-        return err.write_all(b"too long\n");
-    }
+    let Some(n) = desk_io::read_image(input, err, buffer)? else {
+        return Ok(());
+    };
     draw(out, err, &buffer[..n])
 }
 

@@ -2,30 +2,24 @@
 // to standard error.
 #![tactic(auto)]
 
+use page::Page;
 use std::io;
 use std::io::Write;
 
 // One byte more than the longest input that is taken, so that a longer one is seen to be too long and is not cut.
 const ROOM: usize = 8203;
 
-fn refuse<W: Write>(err: &mut W, number: u8) -> io::Result<()> {
-    let mut line = [0u8; 128];
-    let n = page_lines::refused_line(&mut line, 0, number);
-    err.write_all(page::so_far(&line, n))
-}
-
 fn put_symbol<W: Write>(out: &mut W, input: &[u8]) -> io::Result<()> {
     let mut line = [0u8; 64];
-    let n = page_symbols::put_line(&mut line, 0, lister::ring_symbol(input));
-    out.write_all(page::so_far(&line, n))
+    let mut page = Page::new(&mut line);
+    page_symbols::put_line(&mut page, lister::ring_symbol(input));
+    out.write_all(page.written())
 }
 
 fn tell<O: Write, E: Write>(out: &mut O, err: &mut E, input: &[u8]) -> io::Result<()> {
-    let number = lister::input_refusal(input);
-    if number == 0 {
-        put_symbol(out, input)
-    } else {
-        refuse(err, number)
+    match lister::check_input(input) {
+        Ok(()) => put_symbol(out, input),
+        Err(why) => desk_io::refuse(err, why),
     }
 }
 

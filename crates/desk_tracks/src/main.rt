@@ -2,27 +2,21 @@
 // what the statuses of these mean. A refusal goes to standard error.
 #![tactic(auto)]
 
+use page::Page;
 use std::io;
 use std::io::{Read, Write};
 
-fn refuse<W: Write>(err: &mut W, number: u8) -> io::Result<()> {
-    let mut line = [0u8; 128];
-    let n = page_lines::refused_line(&mut line, 0, number);
-    err.write_all(page::so_far(&line, n))
-}
-
 fn put_side<W: Write>(out: &mut W, image: &[u8]) -> io::Result<()> {
-    let mut page = [0u8; 16384];
-    let n = page_track::put_side(&mut page, 0, image);
-    out.write_all(page::so_far(&page, n))
+    let mut room = [0u8; 16384];
+    let mut page = Page::new(&mut room);
+    page_track::put_side(&mut page, image);
+    out.write_all(page.written())
 }
 
 fn list<O: Write, E: Write>(out: &mut O, err: &mut E, image: &[u8]) -> io::Result<()> {
-    let fault = image_kind::image_fault(image);
-    if fault == 0 {
-        put_side(out, image)
-    } else {
-        refuse(err, fault)
+    match image_kind::image_fault(image) {
+        Ok(()) => put_side(out, image),
+        Err(why) => desk_io::refuse(err, why),
     }
 }
 
@@ -32,10 +26,9 @@ fn run<R: Read, O: Write, E: Write>(
     err: &mut E,
     buffer: &mut [u8],
 ) -> io::Result<()> {
-    let n = desk_io::fill(input, buffer)?;
-    if n == buffer.len() {
-        return err.write_all(b"too long\n");
-    }
+    let Some(n) = desk_io::read_image(input, err, buffer)? else {
+        return Ok(());
+    };
     list(out, err, &buffer[..n])
 }
 

@@ -1,22 +1,24 @@
 -- Numbers in bytes, what a half-track has in a table, the two tables, and the head.
 use Prim.Native.Nat.{ℕ, zero, suc, ◌+◌, ◌*◌, ◌/◌, ◌%◌}
 use mathlib.Core.Path.{◌≡◌, refl, sym, ap, ◌∙◌}
-use mathlib.Core.Logic.{◌≢◌}
 use mathlib.Core.Bool.{Bool, true, false, ◌&&◌}
 use mathlib.Core.List.{List, ◌∷◌, ◌++◌, append_assoc}
 use native.Mathlib.Omega.{arith}
 use lib.Dec.{eqb, ltb}
 use lib.ListN.{length, length-append}
 use lib.Seq.{sets}
-use Rattle.base.specs.Choice.{pick}
 use Rattle.base.specs.Lists.{joined}
-use Rattle.base.proofs.Tests.{eqb_yes, eqb_no}
 use Rattle.base.proofs.Lists.{joined_empty, joined-next}
+use Rattle.base.proofs.InRow.{sets-whole}
 use Rattle.base.proofs.Pieces.{put_turn}
 use Rattle.base.proofs.Stores.{joined-long}
 use Rattle.geometry.specs.Zones.{zone_of}
 use Rattle.image_g64.specs.G64.{g64_signature}
-use Rattle.g64_write.specs.Master.{low_first, largest_ring, entry_start, of_half, table_with, master_head}
+use Rattle.std.proofs.Common.{w16, w32}
+use Rattle.std.specs.Int.{to_le_bytes}
+use Rattle.std.proofs.Math.Nat.{div-div-eq-div-mul}
+use Rattle.g64_write.specs.declared.Table.{Table}
+use Rattle.g64_write.specs.Master.{low_first, largest_ring, entry_start, of_half, in_table, table_with, master_head}
 
 -- ---- a number in bytes
 pub length_low : (n x : ℕ) → length (low_first n x) ≡ n
@@ -24,38 +26,24 @@ unfolding low_first
 length_low zero x = refl
 length_low (suc n) x = ap suc (length_low n (x / 256))
 
-pub long_put : (l a b : List ℕ) (at x : ℕ) → a ≡ sets l at (low_first 2 x) → b ≡ sets a (at + 2) (low_first 2 (x / 256 / 256))
-    → b ≡ sets l at (low_first 4 x)
+-- as the library writes it
+pub two_low : (x : ℕ) → to_le_bytes w16 x ≡ low_first 2 x
 unfolding low_first
-long_put l a b at x p q = put_turn l a b (low_first 2 x) (low_first 2 (x / 256 / 256)) at (at + 2) 2 p refl refl q
+two_low x = refl
 
--- ---- the test of whether a half-track holds a track
-pub odd_half : (n h : ℕ) → h % 2 ≢ 0 → false ≡ (eqb (h % 2) 0 && ltb (h / 2) n)
-odd_half n h e = rw (eqb_no (h % 2) 0 e)
+pub four_low : (x : ℕ) → to_le_bytes w32 x ≡ low_first 4 x
+unfolding low_first
+four_low x = simp (div-div-eq-div-mul) refl
 
-pub even_half : (n h : ℕ) → h % 2 ≡ 0 → ltb (h / 2) n ≡ (eqb (h % 2) 0 && ltb (h / 2) n)
-even_half n h e = rw (eqb_yes (h % 2) 0 e)
+-- ---- what a table has for a half-track, by the test of whether it holds a track
+module _ (table : Table) (n h : ℕ) (b : Bool) (e : b ≡ (eqb (h % 2) 0 && ltb (h / 2) n)) where
+  pub none_here : b ≡ false → 0 ≡ of_half (in_table table) n h
+  none_here t = rw (sym e ∙ t)
 
--- what a table has for it, by that test; the first table has offsets, the second speeds
-abbrev pub in_table : Bool → ℕ → ℕ
-in_table second = pick second zone_of entry_start
+  pub track_here : b ≡ true → (x : ℕ) → x ≡ in_table table (h / 2 + 1) → x ≡ of_half (in_table table) n h
+  track_here t x q = rw (sym e ∙ t) q
 
-module _ (second : Bool) (n h : ℕ) (b : Bool) (e : b ≡ (eqb (h % 2) 0 && ltb (h / 2) n)) where
-  by_test : (has : ℕ → ℕ) (c : Bool) → b ≡ c → pick c (has (h / 2 + 1)) 0 ≡ of_half has n h
-  by_test has c t = sym (ap (λ (y : Bool). pick y (has (h / 2 + 1)) 0) (sym e ∙ t))
-
-  pub none_here : b ≡ false → 0 ≡ of_half (in_table second) n h
-  none_here = by_test (in_table second) false
-
-  pub speed_here : b ≡ true → second ≡ true → (z : ℕ) → z ≡ zone_of (h / 2 + 1) → z ≡ of_half (in_table second) n h
-  speed_here t s z q = q ∙ by_test zone_of true t ∙ ap (λ (y : Bool). of_half (in_table y) n h) (sym s)
-
-  pub offset_here : b ≡ true → second ≡ false → 684 + 7930 * (h / 2) ≡ of_half (in_table second) n h
-  offset_here t s =
-      let q : 684 + 7930 * (h / 2) ≡ entry_start (h / 2 + 1) = omega arith in
-      q ∙ by_test entry_start true t ∙ ap (λ (y : Bool). of_half (in_table y) n h) (sym s)
-
--- ---- a table, stored from `at` of l on
+-- ---- a table, stored into l, which has its length
 module _ (has : ℕ → ℕ) (n : ℕ) where
   abbrev pub four : ℕ → List ℕ
   four h = low_first 4 (of_half has n h)
@@ -66,19 +54,20 @@ module _ (has : ℕ → ℕ) (n : ℕ) where
   pub table-length : length (table_with has n) ≡ 336
   table-length = fours_length 84
 
-  module _ (l : List ℕ) (at : ℕ) where
-    pub table_none : l ≡ sets l at (joined 0 four)
-    table_none = sym (ap (sets l at) (joined_empty four))
+  module _ (l : List ℕ) where
+    pub table_none : l ≡ sets l 0 (joined 0 four)
+    table_none = sym (ap (sets l 0) (joined_empty four))
 
-    pub table_more : (h x : ℕ) (a b : List ℕ) → a ≡ sets l at (joined h four) → x ≡ of_half has n h
-        → b ≡ sets a (at + 4 * h) (low_first 4 x) → b ≡ sets l at (joined (h + 1) four)
+    pub table_more : (h x : ℕ) (a b : List ℕ) → a ≡ sets l 0 (joined h four) → x ≡ of_half has n h
+        → b ≡ sets a (4 * h) (low_first 4 x) → b ≡ sets l 0 (joined (h + 1) four)
     table_more h x a b p e q =
-        put_turn l a b (joined h four) (four h) at (at + 4 * h) (4 * h) p (fours_length h) refl
-        (q ∙ ap (λ (y : ℕ). sets a (at + 4 * h) (low_first 4 y)) e)
-        ∙ ap (sets l at) (sym (joined-next h four))
+        put_turn l a b (joined h four) (four h) 0 (4 * h) (4 * h) p (fours_length h) (omega arith)
+        (q ∙ ap (λ (y : ℕ). sets a (4 * h) (low_first 4 y)) e)
+        ∙ ap (sets l 0) (sym (joined-next h four))
 
-    pub table_all : (h : ℕ) (a : List ℕ) → h ≡ 84 → a ≡ sets l at (joined h four) → a ≡ sets l at (table_with has n)
-    table_all h a e p = p ∙ ap (λ (m : ℕ). sets l at (joined m four)) e
+    pub table_all : (h : ℕ) (a : List ℕ) → h ≡ 84 → length l ≡ 336 → a ≡ sets l 0 (joined h four) → a ≡ table_with has n
+    table_all h a e m p =
+        p ∙ ap (λ (k : ℕ). sets l 0 (joined k four)) e ∙ sets-whole (table_with has n) l (table-length ∙ sym m)
 
 -- ---- the head
 module _ (n : ℕ) where

@@ -3,13 +3,14 @@ use Prim.Native.Nat.{ℕ, ◌+◌, ◌-◌, ◌*◌, ◌%◌, ◌≤◌, ◌<◌
 use mathlib.Core.Path.{◌≡◌, refl, sym, ap, ap₂, ◌∙◌}
 use mathlib.Core.List.{List, ◌++◌, append_assoc}
 use native.Mathlib.Omega.{arith}
+use borrow.Rule.Slice.PartMut.{put_mid}
 use lib.ListN.{length, take, drop, replicate, length-append, length-drop, length-replicate}
-use lib.Seq.{sets, sets-eq, drop-drop, length-take-le}
+use lib.Seq.{sets, length-take-le}
 use Rattle.base.specs.Lists.{tab, joined}
 use Rattle.base.proofs.Lists.{tab_all, joined_empty, joined-next}
 use Rattle.base.proofs.InRow.{sets-whole}
 use Rattle.base.proofs.Pieces.{put_turn}
-use Rattle.base.proofs.Stores.{joined-long}
+use Rattle.base.proofs.Stores.{joined-long, put_part}
 use Rattle.geometry.specs.Zones.{zone_of, sectors_of, capacity_of}
 use Rattle.geometry.specs.D64.{sectors_to, d64_place}
 use Rattle.geometry.proofs.ZoneLaws.{zone_lt, capacity_le}
@@ -53,66 +54,30 @@ module _ (d64 : List ℕ) (track : ℕ) where
     unfolding track_on
     track-length = length-built track (payloads_on d64 track) (codes_on d64 highest track) (disk_id1 d64) (disk_id2 d64)
 
--- ---- a track built into the part of the output from `at` on that has its length
-module _ (track : ℕ) (payloads codes : List ℕ) (id1 id2 : ℕ) (out : List ℕ) (at size : ℕ) where
-  abbrev ring : List ℕ
-  ring = built_track track payloads codes id1 id2
-
-  abbrev lent : List ℕ
-  lent = take (at + size - at) (drop at out)
-
-  pub built_put : length payloads % 256 ≡ 0 → size ≡ capacity_of track → at + size ≤ length out → (ys : List ℕ)
-      → ys ≡ built_after track payloads codes id1 id2 lent
-      → take at out ++ (ys ++ drop (at + size - at) (drop at out)) ≡ sets out at ring
-  built_put s k h ys p =
-      let e : at + size - at ≡ size = omega arith in
-      let m : length lent ≡ size = ap (λ (n : ℕ). length (take n (drop at out))) e
-      ∙ length-take-le size (drop at out) (omega (arith, length-drop at out)) in
-      let r : length ring ≡ size = length-built track payloads codes id1 id2 ∙ sym k in
-      let w = written track payloads codes id1 id2 lent s size k (omega arith) (sets lent 0 ring) refl in
-      let y : ys ≡ ring = p ∙ sym w.1 ∙ sets-whole ring lent (omega arith) in
-      let d : drop (at + size - at) (drop at out) ≡ drop (at + length ring) out =
-      ap (λ (n : ℕ). drop n (drop at out)) (e ∙ sym r) ∙ drop-drop (length ring) at out in
-      ap₂ (λ (x z : List ℕ). take at out ++ (x ++ z)) y d ∙ sym (append_assoc (take at out) ring (drop (at + length ring) out))
-      ∙ sym (sets-eq ring out at (omega arith))
-
--- the same by what the code reads of the image
-pub built_of : (d64 : List ℕ) (track : ℕ) (codes out : List ℕ) (at : ℕ) (payloads : List ℕ) (id1 id2 size : ℕ)
-    → d64_place track 0 + 256 * sectors_of track ≤ length d64 → at + capacity_of track ≤ length out
-    → payloads ≡ payloads_on d64 track → id1 ≡ disk_id1 d64 → id2 ≡ disk_id2 d64 → size ≡ capacity_of track → (ys : List ℕ)
-    → ys ≡ built_after track payloads codes id1 id2 (take (at + size - at) (drop at out))
-    → take at out ++ (ys ++ drop (at + size - at) (drop at out))
-    ≡ sets out at (built_track track (payloads_on d64 track) codes (disk_id1 d64) (disk_id2 d64))
-built_of d64 track codes out at payloads id1 id2 size h room p i j k ys q =
-    built_put track payloads codes id1 id2 out at size (omega (arith, ap length p, payloads-length d64 track h)) k (omega arith) ys q
-    ∙ ap (λ (x : List ℕ). sets out at (built_track track x codes id1 id2)) p
-    ∙ ap₂ (λ (x y : ℕ). sets out at (built_track track (payloads_on d64 track) codes x y)) i j
+-- ---- a track built into room of its length, by what the code reads of the image
+pub built_of : (d64 : List ℕ) (track : ℕ) (codes room payloads : List ℕ) (id1 id2 : ℕ)
+    → d64_place track 0 + 256 * sectors_of track ≤ length d64 → length room ≡ capacity_of track
+    → payloads ≡ payloads_on d64 track → id1 ≡ disk_id1 d64 → id2 ≡ disk_id2 d64 → (ys : List ℕ)
+    → ys ≡ built_after track payloads codes id1 id2 room
+    → ys ≡ built_track track (payloads_on d64 track) codes (disk_id1 d64) (disk_id2 d64)
+built_of d64 track codes room payloads id1 id2 h m p i j ys q =
+    let ring = built_track track payloads codes id1 id2 in
+    let s : length payloads % 256 ≡ 0 = omega (arith, ap length p, payloads-length d64 track h) in
+    let w = written track payloads codes id1 id2 room s (length room) m (omega arith) (sets room 0 ring) refl in
+    q ∙ sym w.1 ∙ sets-whole ring room (length-built track payloads codes id1 id2 ∙ sym m)
+    ∙ ap (λ (x : List ℕ). built_track track x codes id1 id2) p
+    ∙ ap₂ (λ (x y : ℕ). built_track track (payloads_on d64 track) codes x y) i j
 
 -- and with the codes that the image has
-pub coded : (d64 : List ℕ) (track highest : ℕ) (out after codes : List ℕ) (at : ℕ) → codes ≡ codes_on d64 highest track
-    → after ≡ sets out at (built_track track (payloads_on d64 track) codes (disk_id1 d64) (disk_id2 d64))
-    → after ≡ sets out at (track_on d64 highest track)
+pub coded : (d64 : List ℕ) (track highest : ℕ) (after codes : List ℕ) → codes ≡ codes_on d64 highest track
+    → after ≡ built_track track (payloads_on d64 track) codes (disk_id1 d64) (disk_id2 d64)
+    → after ≡ track_on d64 highest track
 unfolding track_on
-coded d64 track highest out after codes at e p =
-    p ∙ ap (λ (y : List ℕ). sets out at (built_track track (payloads_on d64 track) y (disk_id1 d64) (disk_id2 d64))) e
+coded d64 track highest after codes e p =
+    p ∙ ap (λ (y : List ℕ). built_track track (payloads_on d64 track) y (disk_id1 d64) (disk_id2 d64)) e
 
 -- ---- the entry of a track
 module _ (d64 : List ℕ) (n : ℕ) where
-  pub entry_put : (track size at : ℕ) (l a b c : List ℕ) → size ≡ capacity_of track → a ≡ sets l at (low_first 2 size)
-      → b ≡ sets a (at + 2) (track_on d64 n track) → c ≡ sets b (at + 2 + size) (replicate (7928 - size) 0)
-      → c ≡ sets l at (entry_of (track_on d64 n track))
-  unfolding entry_of
-  entry_put track size at l a b c s p q r =
-      let ring = track_on d64 n track in
-      let e : size ≡ length ring = s ∙ sym (track-length d64 track n) in
-      let word = low_first 2 size in
-      let rest = replicate {A = ℕ} (7928 - size) 0 in
-      let m : length (word ++ ring) ≡ 2 + size = length-append word ring ∙ omega (arith, length_low 2 size) in
-      let f : b ≡ sets l at (word ++ ring) = put_turn l a b word ring at (at + 2) 2 p (length_low 2 size) refl q in
-      put_turn l b c (word ++ ring) rest at (at + 2 + size) (2 + size) f m (omega arith) r
-      ∙ ap (sets l at) (append_assoc word ring rest)
-      ∙ ap (λ (y : ℕ). sets l at (low_first 2 y ++ (ring ++ replicate (7928 - y) 0))) e
-
   pub entry_length : (track : ℕ) → length (entry_of (track_on d64 n track)) ≡ 7930
   unfolding entry_of
   entry_length track =
@@ -127,6 +92,23 @@ module _ (d64 : List ℕ) (n : ℕ) where
         capacity_le (zone_of track) (zone_lt track),
       )
 
+  -- put together in l, which has its length
+  pub entry_put : (track size : ℕ) (l a b c : List ℕ) → size ≡ capacity_of track → length l ≡ 7930 → a ≡ sets l 0 (low_first 2 size)
+      → b ≡ sets a 2 (track_on d64 n track) → c ≡ sets b (2 + size) (replicate (7928 - size) 0)
+      → c ≡ entry_of (track_on d64 n track)
+  unfolding entry_of
+  entry_put track size l a b c s w p q r =
+      let ring = track_on d64 n track in
+      let e : size ≡ length ring = s ∙ sym (track-length d64 track n) in
+      let word = low_first 2 size in
+      let rest = replicate {A = ℕ} (7928 - size) 0 in
+      let m : length (word ++ ring) ≡ 2 + size = length-append word ring ∙ omega (arith, length_low 2 size) in
+      let f : b ≡ sets l 0 (word ++ ring) = put_turn l a b word ring 0 2 2 p (length_low 2 size) refl q in
+      put_turn l b c (word ++ ring) rest 0 (2 + size) (2 + size) f m (omega arith) r
+      ∙ ap (sets l 0) (append_assoc word ring rest)
+      ∙ ap (λ (y : ℕ). sets l 0 (low_first 2 y ++ (ring ++ replicate (7928 - y) 0))) e
+      ∙ sets-whole (entry_of ring) l (entry_length track ∙ sym w)
+
   -- one after the other, from `at` of l on
   abbrev pub entry : ℕ → List ℕ
   entry k = entry_of (track_on d64 n (k + 1))
@@ -138,11 +120,14 @@ module _ (d64 : List ℕ) (n : ℕ) where
     pub entries_none : l ≡ sets l at (joined 0 entry)
     entries_none = sym (ap (sets l at) (joined_empty entry))
 
-    pub entries_more : (k : ℕ) (a b : List ℕ) → a ≡ sets l at (joined k entry) → b ≡ sets a (at + 7930 * k) (entry k)
-        → b ≡ sets l at (joined (k + 1) entry)
-    entries_more k a b p q =
-        put_turn l a b (joined k entry) (entry k) at (at + 7930 * k) (7930 * k) p (entries_length k) refl q
-        ∙ ap (sets l at) (sym (joined-next k entry))
+    pub entries_more : (k from : ℕ) (a now : List ℕ) → a ≡ sets l at (joined k entry) → from ≡ k → now ≡ entry k
+        → at + 7930 * k + 7930 ≤ length a
+        → put_mid (at + 7930 * from) (at + 7930 * from + 7930 - (at + 7930 * from)) a now ≡ sets l at (joined (k + 1) entry)
+    entries_more k from a now p e q h =
+        rw e
+        (put_turn l a _ (joined k entry) (entry k) at (at + 7930 * k) (7930 * k) p (entries_length k) refl
+        (put_part a now (entry k) (at + 7930 * k) 7930 q (entry_length (k + 1)) h)
+        ∙ ap (sets l at) (sym (joined-next k entry)))
 
     pub entries_all : (k : ℕ) (a : List ℕ) → k ≡ n → a ≡ sets l at (joined k entry) → a ≡ sets l at (joined n entry)
     entries_all k a e p = p ∙ ap (λ (y : ℕ). sets l at (joined y entry)) e

@@ -9,6 +9,8 @@ use Rattle.geometry.specs.D64.{d64_place}
 use Rattle.track_build.specs.Slots.{built_track}
 use Rattle.image_d64.specs.D64.{error_byte}
 use Rattle.image_g64.specs.G64.{g64_signature}
+use Rattle.g64_write.specs.declared.Table.{Table}
+use Rattle.g64_write.specs.declared.Table.TheVariants.{Offsets, Speeds}
 
 -- a number in n bytes, the lowest first
 unfoldable pub low_first : ℕ → ℕ → List ℕ
@@ -55,6 +57,11 @@ entry_start track = head_size + entry_size * (track - 1)
 -- in a table, half-track h of a disk of n tracks: four bytes of what its track has, and zeros where it is none
 abbrev pub of_half : (ℕ → ℕ) → ℕ → ℕ → ℕ
 of_half has n h = pick (eqb (h % 2) 0 && ltb (h / 2) n) (has (h / 2 + 1)) 0
+
+-- what its track has, by the table
+abbrev pub in_table : Table → ℕ → ℕ
+in_table Offsets = entry_start
+in_table Speeds = zone_of
 
 abbrev pub table_with : (ℕ → ℕ) → ℕ → List ℕ
 table_with has n = joined 84 (λ h. low_first 4 (of_half has n h))

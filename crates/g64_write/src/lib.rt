@@ -1,7 +1,6 @@
 // A master: the G64 image of a D64, each track built into its place in the output.
 ghost use Rattle.std.specs.Prelude.{◌≡◌, ◌&&◌, ◌+◌, ◌*◌, ◌/◌, ◌%◌, ◌<◌, ◌≤◌, eqb, ltb, length, get_or};
 ghost use Rattle.std.proofs.lemmas.List.Edits.{sets};
-ghost use Rattle.base.specs.Choice.{pick};
 ghost use Rattle.base.specs.Lists.{joined};
 ghost use Rattle.geometry.specs.Zones.{zone_of, sectors_of, capacity_of};
 ghost use Rattle.geometry.specs.D64.{sectors_to, d64_place};
@@ -17,6 +16,7 @@ ghost use Rattle.g64_write.specs.Master.{
   head_size,
   entry_start,
   of_half,
+  in_table,
   table_with,
   master_head,
   entry_of,
@@ -25,7 +25,7 @@ ghost use Rattle.g64_write.specs.Master.{
 };
 ghost use Rattle.g64_write.specs.Answers.{mastered, out_after};
 
-use geometry::TrackCount;
+use base::Refusal;
 
 // How many half-tracks the tables have.
 const HALF_TRACKS: usize = 84;
@@ -39,65 +39,52 @@ const LARGEST_RING: usize = 7928;
 // What a track takes, with the two bytes of its length.
 const ENTRY_SIZE: usize = 7930;
 
-// The number of bytes written, or the refusal's number.
-#[derive(Drop)]
-pub enum Mastered {
-    Written(usize),
-    Refused(u8),
+// The tables of the head: where the track of a half-track begins, and its speed.
+#[derive(Clone, Copy)]
+enum Table {
+    Offsets,
+    Speeds,
 }
 
-// A number in two bytes, the lower first.
-fn put_word(out: &mut [u8], at: usize, x: usize)
-    requires { at + 2 ≤ length out.old }
-    ensures { out.new ≡ sets out.old at (low_first 2 x) }
-{
-    let bytes = [(x % 256) as u8, (x / 256 % 256) as u8];
-    base::store(out, at, &bytes);
-}
-
-// A number in four bytes, the lowest first.
-fn put_long(out: &mut [u8], at: usize, x: usize)
-    requires { at + 4 ≤ length out.old }
-    ensures { out.new ≡ sets out.old at (low_first 4 x) }
-{
-    put_word(out, at, x);
-    put_word(out, at + 2, x / 256 / 256);
+// A track of a D64, whose sectors the image holds; by the highest track of the disk its error bytes are found.
+#[derive(Clone, Copy)]
+struct Source<'a> {
+    d64: &'a [u8],
+    highest: u8,
+    track: u8,
+    ghost known: { highest ≤ 42 },
+    ghost whole: { d64_place track 0 + 256 * sectors_of track ≤ length d64.now },
 }
 
 // Does a half-track of a disk of n tracks hold one?
 fn is_track(n: u8, half: usize) -> bool
     ensures { result ≡ (eqb (half % 2) 0 && ltb (half / 2) n) }
 {
-    if half % 2 != 0 {
-        return false;
-    }
-    half / 2 < n as usize
+    half % 2 == 0 && half / 2 < usize::from(n)
 }
 
-// What a table has for a half-track: the speed of its track, or where its entry begins; 0 where it holds none.
-fn table_number(speeds: bool, n: u8, half: usize) -> usize
+// What a table has for a half-track; 0 where it holds no track.
+fn table_number(table: Table, n: u8, half: usize) -> u32
     requires { half < 84 }
-    ensures { result ≡ of_half (pick speeds zone_of entry_start) n half }
+    ensures { result ≡ of_half (in_table table) n half }
 {
     if !is_track(n, half) {
         return 0;
     }
-    if speeds {
-        return geometry::zone_of((half / 2 + 1) as u8) as usize;
+    match table {
+        Table::Offsets => (HEAD_SIZE + ENTRY_SIZE * (half / 2)) as u32,
+        Table::Speeds => u32::from(geometry::zone_of((half / 2 + 1) as u8)),
     }
-    HEAD_SIZE + ENTRY_SIZE * (half / 2)
 }
 
-// The table of speeds, or that of offsets, from `at` on.
-fn put_table(out: &mut [u8], at: usize, speeds: bool, n: u8)
-    requires { at + 336 ≤ length out.old }
-    ensures { out.new ≡ sets out.old at (table_with (pick speeds zone_of entry_start) n) }
+// A table, four bytes for each half-track.
+fn put_table(part: &mut [u8], table: Table, n: u8)
+    requires { length part.old ≡ 336 }
+    ensures { part.new ≡ table_with (in_table table) n }
 {
-    let mut half: usize = 0;
-    while half < HALF_TRACKS {
-        let number = table_number(speeds, n, half);
-        put_long(out, at + 4 * half, number);
-        half += 1;
+    for half in 0..HALF_TRACKS {
+        let number = table_number(table, n, half);
+        base::store(part, 4 * half, &number.to_le_bytes());
     }
 }
 
@@ -107,83 +94,81 @@ fn put_head(out: &mut [u8], n: u8)
     ensures { out.new ≡ sets out.old 0 (master_head n) }
 {
     base::store(out, 0, b"GCR-1541\x00\x54\xF8\x1E");
-    put_table(out, 12, false, n);
-    put_table(out, 348, true, n);
+    put_table(&mut out[12..348], Table::Offsets, n);
+    put_table(&mut out[348..HEAD_SIZE], Table::Speeds, n);
 }
 
-// The bytes of a track's sectors.
-fn payloads_on(d64: &[u8], track: u8) -> &[u8]
-    requires { d64_place track 0 + 256 * sectors_of track ≤ length d64.now }
-    ensures { result.now ≡ payloads_on d64.now track }
-{
-    let start = geometry::d64_place(track, 0);
-    let end = start + 256 * geometry::sectors_per_track(track) as usize;
-    &d64[start..end]
-}
-
-// A byte of 18/0: at A2 and A3 are the disk's ids.
-fn byte_of_bam(d64: &[u8], place: u8) -> u8
-    ensures { result ≡ get_or d64.now (d64_place 18 0 + place) 0 }
-{
-    base::byte_or(d64, geometry::d64_place(18, 0) + place as usize, 0)
-}
-
-// The error bytes of a track's sectors.
-fn put_codes(part: &mut [u8], d64: &[u8], highest: u8, track: u8)
-    requires { (highest ≤ 42) × (length part.old ≡ sectors_of track) }
-    ensures { part.new ≡ codes_on d64.now highest track }
-{
-    let mut sector: u8 = 0;
-    while (sector as usize) < part.len() {
-        part[sector as usize] = image_d64::error_byte(d64, highest, track, sector);
-        sector += 1;
+impl<'a> Source<'a> {
+    // The bytes of the track's sectors.
+    fn payloads(&self) -> &'a [u8]
+        ensures { result.now ≡ payloads_on self.now.d64.now self.now.track }
+    {
+        let start = geometry::d64_place(self.track, 0);
+        let end = start + 256 * usize::from(geometry::sectors_per_track(self.track));
+        &self.d64[start..end]
     }
-}
 
-// A track of these codes, built from `at` on.
-fn put_built(out: &mut [u8], at: usize, d64: &[u8], track: u8, codes: &[u8])
-    requires { (at + capacity_of track ≤ length out.old) × (d64_place track 0 + 256 * sectors_of track ≤ length d64.now) }
-    ensures { out.new ≡ sets out.old at
-        (built_track track (payloads_on d64.now track) codes.now
-        (disk_id1 d64.now) (disk_id2 d64.now)) }
-{
-    let id1 = byte_of_bam(d64, 0xA2);
-    let id2 = byte_of_bam(d64, 0xA3);
-    let payloads = payloads_on(d64, track);
-    let end = at + geometry::track_capacity(track);
-    track_build::build_track_with_errors(track, payloads, codes, id1, id2, &mut out[at..end]);
-}
+    // A byte of 18/0: at A2 and A3 are the disk's ids.
+    fn byte_of_bam(&self, place: u8) -> u8
+        ensures { result ≡ get_or self.now.d64.now (d64_place 18 0 + place) 0 }
+    {
+        base::byte_or(self.d64, geometry::d64_place(18, 0) + usize::from(place), 0)
+    }
 
-// A track with the codes that the image has for it, built from `at` on; `codes` has room for them.
-fn put_coded(out: &mut [u8], at: usize, d64: &[u8], highest: u8, track: u8, codes: &mut [u8])
-    requires { (at + capacity_of track ≤ length out.old) × (d64_place track 0 + 256 * sectors_of track ≤ length d64.now)
-        × (highest ≤ 42) × (length codes.old ≡ sectors_of track) }
-    ensures { out.new ≡ sets out.old at (track_on d64.now highest track) }
-{
-    put_codes(codes, d64, highest, track);
-    put_built(out, at, d64, track, codes);
-}
+    // The error bytes of the track's sectors.
+    fn put_codes(&self, part: &mut [u8])
+        requires { length part.old ≡ sectors_of self.now.track }
+        ensures { part.new ≡ codes_on self.now.d64.now self.now.highest self.now.track }
+    {
+        for (sector, byte) in part.iter_mut().enumerate() {
+            *byte = image_d64::error_byte(self.d64, self.highest, self.track, sector as u8);
+        }
+    }
 
-// The same, with room for at most 21 codes.
-fn put_track(out: &mut [u8], at: usize, d64: &[u8], highest: u8, track: u8)
-    requires { (at + capacity_of track ≤ length out.old) × (d64_place track 0 + 256 * sectors_of track ≤ length d64.now)
-        × (highest ≤ 42) }
-    ensures { out.new ≡ sets out.old at (track_on d64.now highest track) }
-{
-    let mut codes = [0u8; 21];
-    let count = geometry::sectors_per_track(track) as usize;
-    put_coded(out, at, d64, highest, track, &mut codes[0..count]);
-}
+    // The track with these codes, built into room of its length.
+    fn put_built(&self, room: &mut [u8], codes: &[u8])
+        requires { length room.old ≡ capacity_of self.now.track }
+        ensures { room.new ≡
+            built_track self.now.track (payloads_on self.now.d64.now self.now.track) codes.now
+            (disk_id1 self.now.d64.now) (disk_id2 self.now.d64.now) }
+    {
+        let id1 = self.byte_of_bam(0xA2);
+        let id2 = self.byte_of_bam(0xA3);
+        let payloads = self.payloads();
+        let track = self.track;
+        // Nothing is refused: the payloads are whole, and the room is the track's.
+        let _ = track_build::build_track_with_errors(track, payloads, codes, id1, id2, room);
+    }
 
-// The entry of a track: its length, its bytes, zeros.
-fn put_entry(out: &mut [u8], at: usize, d64: &[u8], highest: u8, track: u8)
-    requires { (at + entry_size ≤ length out.old) × (d64_place track 0 + 256 * sectors_of track ≤ length d64.now) × (highest ≤ 42) }
-    ensures { out.new ≡ sets out.old at (entry_of (track_on d64.now highest track)) }
-{
-    let size = geometry::track_capacity(track);
-    put_word(out, at, size);
-    put_track(out, at + 2, d64, highest, track);
-    base::fill(out, at + 2 + size, LARGEST_RING - size, 0);
+    // The track with the codes that the image has for it; `codes` has room for them.
+    fn put_coded(&self, room: &mut [u8], codes: &mut [u8])
+        requires { (length room.old ≡ capacity_of self.now.track) × (length codes.old ≡ sectors_of self.now.track) }
+        ensures { room.new ≡ track_on self.now.d64.now self.now.highest self.now.track }
+    {
+        self.put_codes(codes);
+        self.put_built(room, codes);
+    }
+
+    // The same, with room for at most 21 codes.
+    fn put_track(&self, room: &mut [u8])
+        requires { length room.old ≡ capacity_of self.now.track }
+        ensures { room.new ≡ track_on self.now.d64.now self.now.highest self.now.track }
+    {
+        let mut codes = [0u8; 21];
+        let count = usize::from(geometry::sectors_per_track(self.track));
+        self.put_coded(room, &mut codes[0..count]);
+    }
+
+    // The entry of the track: its length, its bytes, zeros.
+    fn put_entry(&self, entry: &mut [u8])
+        requires { length entry.old ≡ entry_size }
+        ensures { entry.new ≡ entry_of (track_on self.now.d64.now self.now.highest self.now.track) }
+    {
+        let size = geometry::track_capacity(self.track);
+        base::store(entry, 0, &(size as u16).to_le_bytes());
+        self.put_track(&mut entry[2..2 + size]);
+        base::fill(entry, 2 + size, LARGEST_RING - size, 0);
+    }
 }
 
 // The entries of all tracks, behind the head.
@@ -191,16 +176,14 @@ fn put_entries(out: &mut [u8], d64: &[u8], n: u8)
     requires { (master_size n ≤ length out.old) × (n ≤ 42) × (sectors_to n * 256 ≤ length d64.now) }
     ensures { out.new ≡ sets out.old head_size (joined n (λ k. entry_of (track_on d64.now n (k + 1)))) }
 {
-    let mut done: u8 = 0;
-    while done < n {
-        put_entry(
-            out,
-            HEAD_SIZE + ENTRY_SIZE * done as usize,
+    for done in 0..n {
+        let source = Source {
             d64,
-            n,
-            done + 1,
-        );
-        done += 1;
+            highest: n,
+            track: done + 1,
+        };
+        let at = HEAD_SIZE + ENTRY_SIZE * usize::from(done);
+        source.put_entry(&mut out[at..at + ENTRY_SIZE]);
     }
 }
 
@@ -213,18 +196,18 @@ fn put_master(out: &mut [u8], d64: &[u8], n: u8)
     put_entries(out, d64, n);
 }
 
-// The master of a D64, written to the front of the output; what is behind it stays as lent.
-pub fn d64_to_g64(d64: &[u8], out: &mut [u8]) -> Mastered
+// The master of a D64, written to the front of the output, and how many bytes it has; what is behind it stays as lent.
+pub fn d64_to_g64(d64: &[u8], out: &mut [u8]) -> Result<usize, Refusal>
     ensures { (result ≡ mastered d64.now out.old)
         × (out.new ≡ out_after d64.now out.old) }
 {
-    let TrackCount::Tracks(n) = geometry::tracks_of(d64.len()) else {
-        return Mastered::Refused(base::WRONG_IMAGE);
+    let Some(n) = geometry::tracks_of(d64.len()) else {
+        return Err(Refusal::WrongImage);
     };
-    let size = HEAD_SIZE + ENTRY_SIZE * n as usize;
+    let size = HEAD_SIZE + ENTRY_SIZE * usize::from(n);
     if out.len() < size {
-        return Mastered::Refused(base::NO_ROOM);
+        return Err(Refusal::NoRoom);
     }
     put_master(out, d64, n);
-    Mastered::Written(size)
+    Ok(size)
 }

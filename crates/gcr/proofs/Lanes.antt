@@ -240,8 +240,8 @@ module _ (v b0 b1 b2 b3 b4 : ℕ) (e0 : b0 ≡ lanes (bit 0) 8 v) (e1 : b1 ≡ l
   fit {a} {f} l =
       subst (λ (y : ℕ). y < 1099511627776) (sym l.is) (lanes_lt f (λ d h. omega (arith, l.low d)) 8 v)
 
-  pub nibbles_fit : (high < 1099511627776) × ((b2 < 1099511627776) × ((second < 1099511627776) × (last < 1099511627776)))
-  nibbles_fit = (fit lh, (fit l2, (fit ls, fit ll)))
+  pub nibbles_fit : (high < 1099511627776) × (b2 < 1099511627776) × (second < 1099511627776) × (last < 1099511627776)
+  nibbles_fit = (fit lh, fit l2, fit ls, fit ll)
 
   pub nibbles_are : 8 * high + 4 * b2 + 2 * second + last ≡ lanes nibble_bits 8 v
   unfolding nibble_bits
@@ -275,7 +275,7 @@ of_eight p e (suc (suc (suc (suc (suc (suc (suc (suc j)))))))) h = absurd (omega
 
 first_true_lem : (a b : Bool) → (a && b) ≡ true → (a ≡ true) × (b ≡ true)
 first_true_lem true b e = (refl, e)
-first_true_lem false b e = absurd (let z : ◌≡◌ {A = ℕ} 0 1 = cc in omega arith)
+first_true_lem false b e = absurd cc
 
 module _ (v : ℕ) where
   all_true : legal (digits 32 8 v) ≡ true → Eight (λ j. is_legal (code v j) ≡ true)

@@ -9,9 +9,12 @@ use Prim.Native.Nat.{ℕ, zero, suc, ◌+◌, ◌*◌, ◌-◌, ◌≤◌, ◌<�
 use native.Mathlib.Omega.{arith}
 use lib.ListN.{length, get_or, take, drop, replicate, length-append, length-drop}
 use lib.Seq.{sets, take-append-le, drop-append-le}
+use Rattle.std.specs.Prelude.{Some, None, Result, Ok, Err, is_ok}
 use Rattle.base.specs.Bits.{bit_in}
 use Rattle.base.specs.Lists.{tab}
-use Rattle.base.specs.Refusals.{no_room}
+use Rattle.base.specs.Answers.{refusal_number}
+use Rattle.base.specs.declared.Refusal.{Refusal}
+use Rattle.base.specs.declared.Refusal.TheVariants.{NoRoom}
 use Rattle.base.proofs.InRow.{window, sets_more, sets_front}
 use Rattle.base.proofs.Lists.{length-tab}
 use Rattle.base.proofs.Tests.{ltb_yes, ltb_no}
@@ -19,18 +22,16 @@ use Rattle.gcr.specs.Symbols.{Decoded, Bytes, IllegalAt}
 use Rattle.gcr.specs.Groups.{encode_group, decode_group, encode}
 use Rattle.gcr.specs.Places.{decode_at}
 use Rattle.gcr.specs.Answers.{answer4}
+use Rattle.gcr.specs.declared.Illegal.{Illegal as BadSymbol}
 use Rattle.gcr.proofs.EncodeLaws.{length-encode, length_group}
 use Rattle.gcr.proofs.DecodeLaws.{decode_legal, decode_bytes, decode_more, decode_stop}
 use Rattle.gcr.proofs.AtPlaces.{group_in}
 use Rattle.gcr_blocks.specs.Blocks.{groups_for, code_length, encode_block, bytes_length, decode_block}
-use Rattle.gcr_blocks.specs.Answers.{coded_number, encode_refusal, encoded, encoded_out}
+use Rattle.gcr_blocks.specs.Answers.{encode_refusal, encoded, encoded_out}
 use Rattle.gcr_blocks.specs.Answers.{decode_refusal, decoded_number, decoded, decoded_out, is_readable, bytes_in}
 use Rattle.gcr_blocks.specs.Inside.{first_in}
-use Rattle.gcr_blocks.specs.declared.Coded.{Coded}
-use Rattle.gcr_blocks.specs.declared.Coded.TheVariants.{Written, Refused}
-use Rattle.gcr_blocks.specs.declared.BlockDecoded.{BlockDecoded}
-use Rattle.gcr_blocks.specs.declared.BlockDecoded.TheVariants.{Written as BytesWritten, Refused as NotDecoded, Illegal}
-use Rattle.gcr_blocks.specs.declared.FirstIllegal.TheVariants.{At, Nowhere}
+use Rattle.gcr_blocks.specs.declared.Undecoded.{Undecoded}
+use Rattle.gcr_blocks.specs.declared.Undecoded.TheVariants.{Refused, Illegal}
 use Rattle.gcr_blocks.proofs.Runs.{encode_more}
 
 -- what stands behind the groups does not matter
@@ -115,15 +116,16 @@ module _ (code : List ℕ) (i : ℕ) (room : 5 * i + 5 ≤ length code) (bytes :
   more : (xs ys : List ℕ) → decode_at x 0 (4 * i) ≡ Bytes xs → group ≡ Bytes ys → decode_at x 0 (4 * (i + 1)) ≡ Bytes (xs ++ ys)
   more xs ys e f = ap (decode_at x 0) (omega arith) ∙ decode_more x 0 (4 * i) xs e 4 ys (here (Bytes ys) f)
 
-  pub readable-next : is_readable (decode_at x 0 (4 * i)) ≡ true → (answer4 group).ok ≡ true → is_readable (decode_at x 0 (4 * (i + 1))) ≡ true
+  pub readable-next : (ys : List ℕ) → is_readable (decode_at x 0 (4 * i)) ≡ true → answer4 group ≡ Ok ys
+      → is_readable (decode_at x 0 (4 * (i + 1))) ≡ true
   unfolding answer4
-  readable-next a b = go (decode_at x 0 (4 * i)) refl a group refl b
+  readable-next ys a b = go (decode_at x 0 (4 * i)) refl a group refl b
     where
-      go : (d : Decoded) → decode_at x 0 (4 * i) ≡ d → is_readable d ≡ true → (g : Decoded) → group ≡ g → (answer4 g).ok ≡ true → is_readable
-          (decode_at x 0 (4 * (i + 1))) ≡ true
+      go : (d : Decoded) → decode_at x 0 (4 * i) ≡ d → is_readable d ≡ true → (g : Decoded) → group ≡ g → answer4 g ≡ Ok ys
+          → is_readable (decode_at x 0 (4 * (i + 1))) ≡ true
       go (Bytes xs) e a (Bytes ys) f b = ap is_readable (more xs ys e f)
-      go (Bytes xs) e a (IllegalAt k) f b = absurd (let z : ◌≡◌ {A = ℕ} 0 1 = cc in omega arith)
-      go (IllegalAt k) e a g f b = absurd (let z : ◌≡◌ {A = ℕ} 0 1 = cc in omega arith)
+      go (Bytes xs) e a (IllegalAt k) f b = absurd cc
+      go (IllegalAt k) e a g f b = absurd cc
 
   stopped : (n k : ℕ) (xs : List ℕ) → i < n → decode_at x 0 (4 * i) ≡ Bytes xs → group ≡ IllegalAt k
       → decode_at x 0 (4 * n) ≡ IllegalAt (8 * i + k)
@@ -132,29 +134,30 @@ module _ (code : List ℕ) (i : ℕ) (room : 5 * i + 5 ≤ length code) (bytes :
       let j : 2 * (4 * i) + k ≡ 8 * i + k = omega arith in
       ap (decode_at x 0) m ∙ decode_stop x 0 (4 * i) xs e 4 k (4 * n - 4 * i - 4) (here (IllegalAt k) f) ∙ ap IllegalAt j
 
-  pub first_stop : (n : ℕ) → i < n → is_readable (decode_at x 0 (4 * i)) ≡ true → (answer4 group).ok ≡ false
-      → first_in (decode_at x 0 (4 * n)) ≡ At (8 * i + (answer4 group).symbol)
+  pub first_stop : (n : ℕ) (bad : BadSymbol) → i < n → is_readable (decode_at x 0 (4 * i)) ≡ true → answer4 group ≡ Err bad
+      → first_in (decode_at x 0 (4 * n)) ≡ Some (8 * i + bad.index)
   unfolding answer4
-  first_stop n l a b = go (decode_at x 0 (4 * i)) refl a group refl b
+  first_stop n bad l a b = go (decode_at x 0 (4 * i)) refl a group refl b
     where
-      go : (d : Decoded) → decode_at x 0 (4 * i) ≡ d → is_readable d ≡ true → (g : Decoded) → group ≡ g → (answer4 g).ok ≡ false
-          → first_in (decode_at x 0 (4 * n)) ≡ At (8 * i + (answer4 group).symbol)
+      go : (d : Decoded) → decode_at x 0 (4 * i) ≡ d → is_readable d ≡ true → (g : Decoded) → group ≡ g → answer4 g ≡ Err bad
+          → first_in (decode_at x 0 (4 * n)) ≡ Some (8 * i + bad.index)
       go (Bytes xs) e a (IllegalAt k) f b =
-          ap first_in (stopped n k xs l e f) ∙ ap (λ (g : Decoded). At (8 * i + (answer4 g).symbol)) (sym f)
-      go (Bytes xs) e a (Bytes ys) f b = absurd (let z : ◌≡◌ {A = ℕ} 0 1 = cc in omega arith)
-      go (IllegalAt k) e a g f b = absurd (let z : ◌≡◌ {A = ℕ} 0 1 = cc in omega arith)
+          let q : k ≡ bad.index = cc in
+          ap first_in (stopped n k xs l e f) ∙ ap (λ (k : ℕ). Some (8 * i + k)) q
+      go (Bytes xs) e a (Bytes ys) f b = absurd cc
+      go (IllegalAt k) e a g f b = absurd cc
 
 -- what the search for a symbol outside the table tells
-pub first_none : (d : Decoded) → is_readable d ≡ true → first_in d ≡ Nowhere
+pub first_none : (d : Decoded) → is_readable d ≡ true → first_in d ≡ None
 first_none (Bytes b) e = refl
-first_none (IllegalAt k) e = absurd (let z : ◌≡◌ {A = ℕ} 0 1 = cc in omega arith)
+first_none (IllegalAt k) e = absurd cc
 
-none_first : (d : Decoded) → Nowhere ≡ first_in d → is_readable d ≡ true
+none_first : (d : Decoded) → None ≡ first_in d → is_readable d ≡ true
 none_first (Bytes b) e = refl
-none_first (IllegalAt k) e = absurd (let z : ◌≡◌ {A = ℕ} 0 1 = cc in omega arith)
+none_first (IllegalAt k) e = absurd cc
 
-first_at : (d : Decoded) (k : ℕ) → At k ≡ first_in d → d ≡ IllegalAt k
-first_at (Bytes b) k e = absurd (let z : ◌≡◌ {A = ℕ} 0 1 = cc in omega arith)
+first_at : (d : Decoded) (k : ℕ) → Some k ≡ first_in d → d ≡ IllegalAt k
+first_at (Bytes b) k e = absurd cc
 first_at (IllegalAt j) k e = let q : j ≡ k = cc in ap IllegalAt q
 
 -- the bytes of one group more; all of a readable run's first groups are readable
@@ -163,7 +166,7 @@ prefix x m n l a = go (decode_at x 0 n) refl a
   where
     go : (d : Decoded) → decode_at x 0 n ≡ d → is_readable d ≡ true → is_readable (decode_at x 0 m) ≡ true
     go (Bytes xs) e a = ap is_readable (decode_legal x 0 m (λ k h. (decode_bytes x 0 n xs e).0 k (omega arith)))
-    go (IllegalAt k) e a = absurd (let z : ◌≡◌ {A = ℕ} 0 1 = cc in omega arith)
+    go (IllegalAt k) e a = absurd cc
 
 length-bytes : (x : ℕ → ℕ) (n : ℕ) (b : List ℕ) → decode_at x 0 n ≡ Bytes b → length b ≡ n
 length-bytes x n b e = ap length (decode_bytes x 0 n b e).1 ∙ length-tab n _
@@ -173,65 +176,80 @@ length-readable x n a = go (decode_at x 0 n) refl a
   where
     go : (d : Decoded) → decode_at x 0 n ≡ d → is_readable d ≡ true → length (bytes_in (decode_at x 0 n)) ≡ n
     go (Bytes b) e a = ap (λ (d : Decoded). length (bytes_in d)) e ∙ length-bytes x n b e
-    go (IllegalAt k) e a = absurd (let z : ◌≡◌ {A = ℕ} 0 1 = cc in omega arith)
+    go (IllegalAt k) e a = absurd cc
 
-module _ (code out₀ out : List ℕ) (i n : ℕ) (l : i < n) (room : 5 * i + 5 ≤ length code) (bytes : (k : ℕ) → get_or code k 0 < 256) where
-  pub bytes_next : is_readable (decode_at (bit_in code) 0 (4 * n)) ≡ true → out ≡ sets out₀ 0 (bytes_in (decode_at (bit_in code) 0 (4 * i)))
-      → sets out (4 * i) (answer4 (decode_group (take 5 (drop (5 * i) code)))).bytes ≡ sets out₀ 0
-      (bytes_in (decode_at (bit_in code) 0 (4 * (i + 1))))
+module _ (code : List ℕ) (i n : ℕ) (l : i < n) (room : 5 * i + 5 ≤ length code) (bytes : (k : ℕ) → get_or code k 0 < 256)
+    (a : is_readable (decode_at (bit_in code) 0 (4 * n)) ≡ true) where
+  abbrev before : Decoded
+  before = decode_at (bit_in code) 0 (4 * i)
+
+  abbrev turned : Decoded
+  turned = decode_group (take 5 (drop (5 * i) code))
+
+  no_stop : (xs : List ℕ) (k : ℕ) → before ≡ Bytes xs → turned ≡ IllegalAt k → ⊥
+  no_stop xs k e f =
+      let z : is_readable (decode_at (bit_in code) 0 (4 * n)) ≡ false = ap is_readable (stopped code i room bytes n k xs l e f) in cc
+
+  pub decodes : is_ok (answer4 turned) ≡ true
   unfolding answer4
-  bytes_next a h = go (decode_at (bit_in code) 0 (4 * i)) refl (prefix (bit_in code) (4 * i) (4 * n) (omega arith) a)
-      (decode_group (take 5 (drop (5 * i) code))) refl
+  decodes = go before refl (prefix (bit_in code) (4 * i) (4 * n) (omega arith) a) turned refl
     where
-      go : (d : Decoded) → decode_at (bit_in code) 0 (4 * i) ≡ d → is_readable d ≡ true → (g : Decoded) → decode_group
-          (take 5 (drop (5 * i) code)) ≡ g
-          → sets out (4 * i) (answer4 (decode_group (take 5 (drop (5 * i) code)))).bytes ≡ sets out₀ 0
-          (bytes_in (decode_at (bit_in code) 0 (4 * (i + 1))))
-      go (Bytes xs) e a' (Bytes ys) f =
-          rw (h, e, f, more code i room bytes xs ys e f) (front_more xs ys out₀ (4 * i) (length-bytes (bit_in code) (4 * i) xs e))
-      go (Bytes xs) e a' (IllegalAt k) f =
-          absurd (let z : is_readable (decode_at (bit_in code) 0 (4 * n)) ≡ false = ap is_readable (stopped code i room bytes n k xs l e f) in
-          let w : ◌≡◌ {A = ℕ} 0 1 = cc in omega arith)
-      go (IllegalAt k) e a' g f = absurd (let z : ◌≡◌ {A = ℕ} 0 1 = cc in omega arith)
+      go : (d : Decoded) → before ≡ d → is_readable d ≡ true → (g : Decoded) → turned ≡ g → is_ok (answer4 turned) ≡ true
+      go (Bytes xs) e a' (Bytes ys) f = ap (λ (g : Decoded). is_ok (answer4 g)) f
+      go (Bytes xs) e a' (IllegalAt k) f = absurd (no_stop xs k e f)
+      go (IllegalAt k) e a' g f = absurd cc
+
+  pub bytes_next : (out₀ out ys : List ℕ) → out ≡ sets out₀ 0 (bytes_in before) → answer4 turned ≡ Ok ys
+      → sets out (4 * i) ys ≡ sets out₀ 0 (bytes_in (decode_at (bit_in code) 0 (4 * (i + 1))))
+  unfolding answer4
+  bytes_next out₀ out ys h b = go before refl (prefix (bit_in code) (4 * i) (4 * n) (omega arith) a) turned refl b
+    where
+      go : (d : Decoded) → before ≡ d → is_readable d ≡ true → (g : Decoded) → turned ≡ g → answer4 g ≡ Ok ys
+          → sets out (4 * i) ys ≡ sets out₀ 0 (bytes_in (decode_at (bit_in code) 0 (4 * (i + 1))))
+      go (Bytes xs) e a' (Bytes zs) f b =
+          let q : zs ≡ ys = cc in
+          rw (← q, h, e, more code i room bytes xs zs e f) (front_more xs zs out₀ (4 * i) (length-bytes (bit_in code) (4 * i) xs e))
+      go (Bytes xs) e a' (IllegalAt k) f b = absurd cc
+      go (IllegalAt k) e a' g f b = absurd cc
 
 -- ---- the ways out of the two functions
 module _ (bytes out : List ℕ) where
-  abbrev Encodes : Coded → List ℕ → Type 0
-  Encodes r last = (r ≡ encoded bytes out) × (last ≡ encoded_out bytes out) × (coded_number r ≡ encode_refusal bytes out)
+  abbrev Encodes : Result ℕ Refusal → List ℕ → Type 0
+  Encodes r last = (r ≡ encoded bytes out) × (last ≡ encoded_out bytes out) × (refusal_number r ≡ encode_refusal bytes out)
 
-  pub encode-refused : length out < code_length bytes → Encodes (Refused no_room) out
+  pub encode-refused : length out < code_length bytes → Encodes (Err NoRoom) out
   unfolding encoded encoded_out
   encode-refused h = let e = ltb_yes (length out) (code_length bytes) h in (rw e, rw e, rw e)
 
   pub encode_done : (last : List ℕ) (n : ℕ) → n ≡ code_length bytes → n ≤ length out → last ≡ encode_block bytes ++ drop n out
-      → Encodes (Written n) last
+      → Encodes (Ok n) last
   unfolding encoded encoded_out
   encode_done last n f h g = let e = ltb_no (length out) (code_length bytes) (omega arith) in (rw (e, ← f), rw (e, ← f) g, rw e)
 
 module _ (code out : List ℕ) where
-  abbrev Decodes : BlockDecoded → List ℕ → Type 0
+  abbrev Decodes : Result ℕ Undecoded → List ℕ → Type 0
   Decodes r last = (r ≡ decoded code out) × (last ≡ decoded_out code out) × (decoded_number r ≡ decode_refusal code out)
 
   abbrev there : Decoded
   there = decode_at (bit_in code) 0 (bytes_length code)
 
-  pub nowhere : Nowhere ≡ first_in there → is_readable there ≡ true
+  pub nowhere : None ≡ first_in there → is_readable there ≡ true
   nowhere = none_first there
 
-  pub decode_refused : length out < bytes_length code → Decodes (NotDecoded no_room) out
+  pub decode_refused : length out < bytes_length code → Decodes (Err (Refused NoRoom)) out
   unfolding decoded decoded_out
   decode_refused h = let e = ltb_yes (length out) (bytes_length code) h in (rw e, rw e, rw e)
 
   module _ (h : bytes_length code ≤ length out) where
-    pub decode_wrong : (k : ℕ) → At k ≡ first_in there → Decodes (Illegal k) out
+    pub decode_wrong : (k : ℕ) → Some k ≡ first_in there → Decodes (Err (Illegal k)) out
     unfolding decoded decoded_out decode_block
     decode_wrong k f =
         let e = ltb_no (length out) (bytes_length code) h in
         let d = first_at there k f in
         (rw (e, d), rw (e, d), rw (e, d))
 
-    pub decode_done : (last : List ℕ) → Nowhere ≡ first_in there → last ≡ sets out 0 (bytes_in there)
-        → Decodes (BytesWritten (bytes_length code)) last
+    pub decode_done : (last : List ℕ) → None ≡ first_in there → last ≡ sets out 0 (bytes_in there)
+        → Decodes (Ok (bytes_length code)) last
     unfolding decoded decoded_out decode_block
     decode_done last n l =
         let e = ltb_no (length out) (bytes_length code) h in

@@ -12,7 +12,7 @@ use native.Mathlib.Nat.{mod-lt}
 use lib.Dec.{lit<}
 use lib.ListN.{length, get_or, take, drop, replicate, length-append, length-replicate, get_or-eq_default}
 use lib.Seq.{ext_get_or}
-use Rattle.base.specs.Bits.{bit_of, bit_in, gather}
+use Rattle.base.specs.Bits.{bit_of, bit_in}
 use Rattle.base.specs.Digits.{number, digits}
 use Rattle.base.specs.Lists.{tab}
 use Rattle.base.proofs.BitLaws.{bit_lt}

@@ -1,13 +1,13 @@
 -- Runs of groups: the code of one group more, and a turn of the loop that stores it.
 use mathlib.Core.Path.{◌≡◌, sym, ap, ap₂, ◌∙◌}
 use mathlib.Core.List.{List, [], ◌∷◌, ◌++◌, append-nil, append_assoc}
-use Prim.Native.Nat.{ℕ, zero, suc, ◌+◌, ◌*◌, ◌≤◌}
+use Prim.Native.Nat.{ℕ, zero, suc, ◌+◌, ◌*◌, ◌-◌}
 use native.Mathlib.Numerals.{add-one}
 use native.Mathlib.Nat.{zero-add}
 use native.Mathlib.Omega.{arith}
 use lib.ListN.{length, take, drop, length-drop}
-use lib.Seq.{sets, drop-drop, take-append-le, drop-append-le}
-use Rattle.base.proofs.InRow.{window, window_is, sets_more}
+use lib.Seq.{sets, take_all, drop-drop, take-append-le, drop-append-le}
+use Rattle.base.proofs.InRow.{sets_more}
 use Rattle.gcr.specs.Groups.{encode_group, encode}
 use Rattle.gcr.proofs.EncodeLaws.{length-encode}
 
@@ -30,13 +30,16 @@ encode-append (suc m) n xs ys e =
     (ap (encode (m + n)) (drop-append-le 4 xs ys (omega arith)) ∙ encode-append m n (drop 4 xs) ys (omega (arith, length-drop 4 xs)))
     ∙ sym (append_assoc (encode_group (take 4 xs)) (encode m (drop 4 xs)) (encode n ys)))
 
--- one turn of the loop that encodes
-pub turn : (out₀ out xs : List ℕ) (at i : ℕ) → 4 * i + 4 ≤ length xs → out ≡ sets out₀ at (encode i xs)
-    → sets out (at + 5 * i) (encode_group (window xs (4 * i) 0 4)) ≡ sets out₀ at (encode (i + 1) xs)
-turn out₀ out xs at i h e =
+-- one turn of the loop that encodes: the group is the front of what is left
+pub turn : (out₀ out xs group : List ℕ) (at i : ℕ) → group ≡ take 4 (take (length xs - 4 * i) (drop (4 * i) xs))
+    → out ≡ sets out₀ at (encode i xs) → sets out (at + 5 * i) (encode_group group) ≡ sets out₀ at (encode (i + 1) xs)
+turn out₀ out xs group at i g e =
+    let all : take (length xs - 4 * i) (drop (4 * i) xs) ≡ drop (4 * i) xs
+    = take_all (length xs - 4 * i) (drop (4 * i) xs) (omega (arith, length-drop (4 * i) xs)) in
     rw (
       e,
-      window_is xs (4 * i) 4 h,
+      g,
+      all,
       sets_more (encode i xs) (encode_group (take 4 (drop (4 * i) xs))) out₀ at (5 * i) (length-encode i xs),
       ← encode_more i xs,
       add-one,

@@ -1,29 +1,24 @@
 -- What coding and decoding a block answer, and what the lent output then holds.
-use Rattle.std.specs.Prelude.{ℕ, Bool, true, false, not, List, [], ◌∷◌, ◌++◌, eqb, ltb, length, drop}
+use Rattle.std.specs.Prelude.{ℕ, Bool, true, false, not, List, [], ◌∷◌, ◌++◌, eqb, ltb, length, drop, Result, Ok, Err}
 use Rattle.base.specs.Choice.{pick}
 use Rattle.base.specs.Refusals.{no_room, illegal_symbol, ◌when◌, refusal, unless}
+use Rattle.base.specs.Answers.{number_of, named, answer}
+use Rattle.base.specs.declared.Refusal.{Refusal}
 use Rattle.gcr.specs.Symbols.{Decoded, Bytes, IllegalAt}
 use Rattle.gcr_blocks.specs.Blocks.{code_length, encode_block, bytes_length, decode_block}
-use Rattle.gcr_blocks.specs.declared.Coded.{Coded}
-use Rattle.gcr_blocks.specs.declared.Coded.TheVariants.{Written, Refused}
-use Rattle.gcr_blocks.specs.declared.BlockDecoded.{BlockDecoded}
-use Rattle.gcr_blocks.specs.declared.BlockDecoded.TheVariants.{Written as BytesWritten, Refused as NotDecoded, Illegal}
+use Rattle.gcr_blocks.specs.declared.Undecoded.{Undecoded}
+use Rattle.gcr_blocks.specs.declared.Undecoded.TheVariants.{Refused, Illegal}
 
 -- ---- coding
--- the number of an answer: 0, or the refusal's
-abbrev pub coded_number : Coded → ℕ
-coded_number (Written count) = 0
-coded_number (Refused number) = number
-
 abbrev pub encode_refusal : List ℕ → List ℕ → ℕ
 encode_refusal bytes out =
     refusal
     (no_room when ltb (length out) (code_length bytes)
     ∷ [])
 
--- the answer: how many bytes are written, or the refusal's number
-unfoldable pub encoded : List ℕ → List ℕ → Coded
-encoded bytes out = unless (encode_refusal bytes out) Refused (Written (code_length bytes))
+-- the answer: how many bytes are written, or the refusal
+unfoldable pub encoded : List ℕ → List ℕ → Result ℕ Refusal
+encoded bytes out = answer (encode_refusal bytes out) (code_length bytes)
 
 -- the output: the code and then the spare room as it came; refused: all as it came
 unfoldable pub encoded_out : List ℕ → List ℕ → List ℕ
@@ -31,10 +26,10 @@ encoded_out bytes out = unless (encode_refusal bytes out) (λ number. out) (enco
 
 -- ---- decoding
 -- the number of an answer: 0, or the refusal's
-abbrev pub decoded_number : BlockDecoded → ℕ
-decoded_number (BytesWritten count) = 0
-decoded_number (NotDecoded number) = number
-decoded_number (Illegal k) = illegal_symbol
+abbrev pub decoded_number : Result ℕ Undecoded → ℕ
+decoded_number (Ok count) = 0
+decoded_number (Err (Refused why)) = number_of why
+decoded_number (Err (Illegal k)) = illegal_symbol
 
 -- there is no symbol outside the table
 abbrev pub is_readable : Decoded → Bool
@@ -58,13 +53,14 @@ decode_refusal code out =
     ∷ illegal_symbol when not (is_readable (decode_block code))
     ∷ [])
 
--- how a refusal is told: a symbol outside the table by its index, every other refusal by its number
-abbrev pub refused_by : ℕ → ℕ → BlockDecoded
-refused_by k number = pick (eqb number illegal_symbol) (Illegal k) (NotDecoded number)
+-- how a refusal is told: a symbol outside the table by its index, every other refusal by which it is
+abbrev pub refused_by : ℕ → ℕ → Undecoded
+refused_by k number = pick (eqb number illegal_symbol) (Illegal k) (Refused (named number))
 
--- the answer: how many bytes are written; or which is the first of the block's symbols outside the table; or another refusal's number
-unfoldable pub decoded : List ℕ → List ℕ → BlockDecoded
-decoded code out = unless (decode_refusal code out) (refused_by (index_in (decode_block code))) (BytesWritten (bytes_length code))
+-- the answer: how many bytes are written; or which is the first of the block's symbols outside the table; or another refusal
+unfoldable pub decoded : List ℕ → List ℕ → Result ℕ Undecoded
+decoded code out =
+    unless (decode_refusal code out) (λ number. Err (refused_by (index_in (decode_block code)) number)) (Ok (bytes_length code))
 
 -- the output: the bytes and then the spare room as it came; refused: all as it came
 unfoldable pub decoded_out : List ℕ → List ℕ → List ℕ

@@ -1,9 +1,8 @@
 -- What the search inside this crate answers.
+use Rattle.std.specs.Prelude.{ℕ, Option, Some, None}
 use Rattle.gcr.specs.Symbols.{Decoded, Bytes, IllegalAt}
-use Rattle.gcr_blocks.specs.declared.FirstIllegal.{FirstIllegal}
-use Rattle.gcr_blocks.specs.declared.FirstIllegal.TheVariants.{At, Nowhere}
 
--- the first symbol outside the table
-abbrev pub first_in : Decoded → FirstIllegal
-first_in (Bytes b) = Nowhere
-first_in (IllegalAt k) = At k
+-- the index of the first symbol outside the table
+abbrev pub first_in : Decoded → Option ℕ
+first_in (Bytes b) = None
+first_in (IllegalAt k) = Some k

@@ -1,14 +1,17 @@
 -- A G64 image: GCR-1541, at byte 9 the number of half-tracks, at 10 the largest ring, at 12 the table of offsets.
-use Rattle.std.specs.Prelude.{ℕ, ◌+◌, ◌*◌, Bool, true, false, ◌&&◌, not, List, [], ◌∷◌, eqb, ltb, leb, length, get_or, take}
+use Rattle.std.specs.Prelude.{ℕ, ◌+◌, ◌*◌, Bool, ◌&&◌, not, List, [], ◌∷◌, eqb, ltb, leb, length, get_or, take}
+use Rattle.std.specs.Prelude.{Option, Some, None, Result, Ok, Err}
 use Rattle.base.specs.Choice.{pick}
-use Rattle.base.specs.Refusals.{wrong_image, wrong_entries, ◌when◌, refusal, unless}
+use Rattle.base.specs.Refusals.{wrong_image, wrong_entries, ◌when◌, refusal}
+use Rattle.base.specs.Answers.{answer}
+use Rattle.base.specs.declared.Refusal.{Refusal}
+use Rattle.base.specs.declared.Refusal.TheVariants.{WrongEntries}
 use Rattle.geometry.specs.Zones.{within}
 use Rattle.base.specs.Bytes.{same_bytes, two_bytes, four_bytes}
 use Rattle.base.specs.Words.{ascii}
-use Rattle.image_rings.specs.declared.Place.{Place}
-use Rattle.image_rings.specs.declared.Place.TheVariants.{At, Absent, Wrong}
-use Rattle.image_rings.specs.declared.Table.{Table}
-use Rattle.image_rings.specs.Rings.{any_wrong, table_of, no_table}
+use Rattle.image_rings.specs.declared.Span.{Span}
+use Rattle.image_rings.specs.declared.Rings.{Rings}
+use Rattle.image_rings.specs.Rings.{span, ring_of, any_wrong, table_of}
 
 abbrev pub g64_signature : List ℕ
 g64_signature = ascii "GCR-1541"
@@ -30,20 +33,20 @@ counts_right image =
     && (not (eqb (largest image) 0) && leb (12 + 8 * half_tracks image) (length image))
 
 -- the ring at an offset: its length, two bytes, and then its bytes; 1 to the largest, and all in the file
-unfoldable pub ring_at : List ℕ → ℕ → Place
+unfoldable pub ring_at : List ℕ → ℕ → Result (Option Span) Refusal
 ring_at image offset =
     pick (leb (offset + 2) (length image)
     && (within 1 (largest image) (two_bytes image offset) && leb (offset + 2 + two_bytes image offset) (length image)))
-    (At (offset + 2) (two_bytes image offset))
-    Wrong
+    (Ok (Some (span (offset + 2) (two_bytes image offset))))
+    (Err WrongEntries)
 
 -- the offset of a half-track; 0 is absent, and so are those above the number of half-tracks
 abbrev pub offset_of : List ℕ → ℕ → ℕ
 offset_of image half = four_bytes image (12 + 4 * half)
 
-unfoldable pub g64_entry : List ℕ → ℕ → Place
+unfoldable pub g64_entry : List ℕ → ℕ → Result (Option Span) Refusal
 g64_entry image half =
-    pick (ltb half (half_tracks image) && not (eqb (offset_of image half) 0)) (ring_at image (offset_of image half)) Absent
+    pick (ltb half (half_tracks image) && not (eqb (offset_of image half) 0)) (ring_at image (offset_of image half)) (Ok None)
 
 -- by which number a G64 image is refused
 abbrev pub g64_refusal : List ℕ → ℕ
@@ -54,5 +57,5 @@ g64_refusal image =
     ∷ [])
 
 -- the table of a G64 image, or its refusal
-unfoldable pub g64_table : List ℕ → Table
-g64_table image = unless (g64_refusal image) no_table (table_of (g64_entry image))
+unfoldable pub g64_table : List ℕ → Result Rings Refusal
+g64_table image = answer (g64_refusal image) (table_of (λ half. ring_of (g64_entry image half)))

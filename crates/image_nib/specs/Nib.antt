@@ -1,29 +1,25 @@
 -- The table of a NIB image: the windows that its catalogue lists. Each whole window is taken as a ring.
-use Rattle.std.specs.Prelude.{ℕ, List}
-use Rattle.nib_catalogue.specs.declared.Pairs.{Pairs}
-use Rattle.nib_catalogue.specs.declared.Pairs.TheVariants.{Count, Refused as NoCatalogue}
-use Rattle.nib_catalogue.specs.declared.Entry.{Entry}
-use Rattle.nib_catalogue.specs.declared.Entry.TheVariants.{At as Pair, Absent as NoPair, Refused as NoEntry}
+use Rattle.std.specs.Prelude.{ℕ, List, Option, Some, None, Result, Ok, Err}
+use Rattle.base.specs.declared.Refusal.{Refusal}
 use Rattle.nib_catalogue.specs.Catalogue.{catalogue_of, window_start}
 use Rattle.nib_slots.specs.Slots.{entry_of}
-use Rattle.image_rings.specs.declared.Place.{Place}
-use Rattle.image_rings.specs.declared.Place.TheVariants.{At, Absent}
-use Rattle.image_rings.specs.declared.Table.{Table}
-use Rattle.image_rings.specs.Rings.{table_of, no_table}
+use Rattle.image_rings.specs.declared.Span.{Span}
+use Rattle.image_rings.specs.declared.Rings.{Rings}
+use Rattle.image_rings.specs.Rings.{span, table_of}
 
 -- where the window of a pair lies, and that of a slot
-abbrev pub window_place : Entry → Place
-window_place (Pair k) = At (window_start k) 8192
-window_place NoPair = Absent
-window_place (NoEntry number) = Absent
+abbrev pub window_place : Result (Option ℕ) Refusal → Option Span
+window_place (Ok (Some k)) = Some (span (window_start k) 8192)
+window_place (Ok None) = None
+window_place (Err why) = None
 
-unfoldable pub nib_entry : List ℕ → ℕ → Place
+unfoldable pub nib_entry : List ℕ → ℕ → Option Span
 nib_entry image slot = window_place (entry_of image slot)
 
 -- the table of a NIB image, or its refusal
-abbrev pub nib_by : List ℕ → Pairs → Table
-nib_by image (Count n) = table_of (nib_entry image)
-nib_by image (NoCatalogue number) = no_table number
+abbrev pub nib_by : List ℕ → Result ℕ Refusal → Result Rings Refusal
+nib_by image (Ok n) = Ok (table_of (nib_entry image))
+nib_by image (Err why) = Err why
 
-unfoldable pub nib_table : List ℕ → Table
+unfoldable pub nib_table : List ℕ → Result Rings Refusal
 nib_table image = nib_by image (catalogue_of image)

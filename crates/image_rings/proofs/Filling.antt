@@ -1,29 +1,33 @@
--- A table of 84 entries, filled from the front.
-use mathlib.Core.Path.{◌≡◌, ◌∙◌}
-use mathlib.Core.Bool.{true}
-use mathlib.Core.List.{List, ◌++◌}
+-- A table of 84 half-tracks, filled from the front.
+use mathlib.Core.Path.{◌≡◌, refl, ap}
+use mathlib.Core.List.{List}
 use Prim.Native.Nat.{ℕ, ◌+◌, ◌<◌}
-use lib.ListN.{set, drop, replicate}
-use Rattle.base.specs.Lists.{tab}
-use Rattle.base.proofs.Lists.{tab-none, tab_more, tab_all}
-use Rattle.image_rings.specs.declared.Place.{Place}
-use Rattle.image_rings.specs.Rings.{start_of, length_of, table_of}
+use native.Mathlib.Omega.{arith}
+use lib.ListN.{length, get_or, length-set}
+use Rattle.std.specs.Prelude.{Option}
+use Rattle.std.proofs.lemmas.List.Edits.{fill_by_more}
+use Rattle.std.proofs.lemmas.List.FromFn.{fill_by_all}
+use Rattle.image_rings.specs.declared.Span.{Span}
+use Rattle.image_rings.specs.declared.Rings.{Rings}
+use Rattle.image_rings.specs.Rings.{no_span, span_of, no_rings, with_span, table_of}
 
-abbrev pub front : (ℕ → ℕ) → ℕ → List ℕ
-front f k = tab k f ++ drop k (replicate 84 0)
+-- the first n half-tracks have their rings
+pub record Filled (ring : ℕ → Option Span) (n : ℕ) (rings : Rings) : Type 0 where
+  pub long : length rings.spans ≡ 84
+  pub each : (k : ℕ) → k < n → get_or rings.spans k no_span ≡ span_of (ring k)
 
-pub front_none : (f : ℕ → ℕ) → replicate 84 0 ≡ front f 0
-front_none f = tab-none f (replicate 84 0)
+pub filled_none : (ring : ℕ → Option Span) → Filled ring 0 no_rings
+filled_none ring = record { long = refl; each = λ k h. absurd (omega arith) }
 
-pub front_more : (f : ℕ → ℕ) (k v : ℕ) (l : List ℕ) → k < 84 → v ≡ f k → l ≡ front f k → set l k v ≡ front f (k + 1)
-front_more f k v l h e q = rw (e, q) (tab_more k f (replicate 84 0) h)
+pub filled_more : (ring : ℕ → Option Span) (n : ℕ) (rings : Rings) (here : Option Span) → n < 84 → here ≡ ring n → Filled ring n rings
+    → Filled ring (n + 1) (with_span rings n here)
+filled_more ring n rings here h e f =
+    record {
+      long = simp length-set f.long;
+      each = rw e (fill_by_more (λ k. span_of (ring k)) rings.spans n no_span (omega (arith, f.long)) f.each);
+    }
 
-pub front_all : (f : ℕ → ℕ) (k : ℕ) (l : List ℕ) → k ≡ 84 → l ≡ front f k → l ≡ tab 84 f
-front_all f k l e q = q ∙ tab_all f (replicate 84 0) k e
-
-pub table_done : (entry : ℕ → Place) (k : ℕ) (starts lengths : List ℕ) → k ≡ 84
-    → starts ≡ front (λ half. start_of (entry half)) k → lengths ≡ front (λ half. length_of (entry half)) k
-    → record { ok = true; number = 0; starts = starts; lengths = lengths } ≡ table_of entry
+pub filled_all : (ring : ℕ → Option Span) (rings : Rings) → Filled ring 84 rings → rings ≡ table_of ring
 unfolding table_of
-table_done entry k starts lengths e p q =
-    rw (front_all (λ half. start_of (entry half)) k starts e p, front_all (λ half. length_of (entry half)) k lengths e q)
+filled_all ring rings f =
+    ap (λ (s : List Span). record { spans = s }) (fill_by_all (λ k. span_of (ring k)) rings.spans 84 no_span f.long f.each)

@@ -1,72 +1,56 @@
--- The rings that a table names: which they are, and that they lie in the file.
-use mathlib.Core.Path.{◌≡◌, refl}
-use Prim.Native.Nat.{ℕ, zero, suc, ◌+◌, ◌*◌, ◌-◌, ◌≤◌}
+-- The rings that a table names lie in the file.
+use Prim.Native.Nat.{ℕ, ◌+◌, ◌*◌, ◌-◌, ◌≤◌}
 use native.Mathlib.Decide.{dec_lt}
 use native.Mathlib.Omega.{arith}
+use mathlib.Core.Path.{sym, subst}
+use mathlib.Core.List.{map}
 use lib.Dec.{eqb}
-use lib.ListN.{length, get_or, replicate, get_or-eq_default}
-use borrow.Author.Tests.{eq-eqb, ne_eqb}
-use Rattle.base.specs.Lists.{tab}
-use Rattle.base.proofs.Lists.{length-tab, get_d_tab}
+use lib.ListN.{length, get_or, get_or-eq_default}
+use Rattle.std.specs.Prelude.{Option, Some, None}
+use Rattle.std.specs.List.{range_with_len}
+use Rattle.std.proofs.lemmas.List.FromFn.{length-map-range_with_len, get_or-map-range_with_len}
 use Rattle.base.proofs.Picks.{pick_ind}
-use Rattle.image_rings.specs.declared.Place.{Place}
-use Rattle.image_rings.specs.declared.Place.TheVariants.{At, Absent}
-use Rattle.image_rings.specs.declared.Table.{Table}
-use Rattle.image_rings.specs.Rings.{start_of, length_of, table_of, no_table, ring_place}
+use Rattle.image_rings.specs.declared.Span.{Span}
+use Rattle.image_rings.specs.declared.Rings.{Rings}
+use Rattle.image_rings.specs.Rings.{no_span, span_of, start_of, length_of, table_of, half_track, ring_place}
 
--- a ring at a place lies in a file of so many bytes
-abbrev pub Inside : ℕ → Place → Type 0
-Inside size p = start_of p + length_of p ≤ size
+-- a span, and a ring, lies in a file of so many bytes
+abbrev pub SpanInside : ℕ → Span → Type 0
+SpanInside size s = s.start + s.length ≤ size
+
+abbrev pub Inside : ℕ → Option Span → Type 0
+Inside size ring = start_of ring + length_of ring ≤ size
 
 -- all rings of a table do
-pub record AllInside (size : ℕ) (table : Table) : Type 0 where
-  pub each : (half : ℕ) → get_or table.starts half 0 + get_or table.lengths half 0 ≤ size
+pub record AllInside (size : ℕ) (rings : Rings) : Type 0 where
+  pub each : (half : ℕ) → SpanInside size (get_or rings.spans half no_span)
 
-pub absent_inside : (size : ℕ) → Inside size Absent
+pub absent_inside : (size : ℕ) → Inside size None
 absent_inside size = omega arith
 
-pub none_inside : (size n : ℕ) → AllInside size (no_table n)
-unfolding no_table
-none_inside size n = record { each = λ half. (let a = zero-at 84 half in omega arith) }
-  where
-    zero-at : (n half : ℕ) → ◌≡◌ {A = ℕ} (get_or (replicate n 0) half 0) 0
-    zero-at zero half = refl
-    zero-at (suc n) zero = refl
-    zero-at (suc n) (suc half) = zero-at n half
-
-pub table-inside : (size : ℕ) (entry : ℕ → Place) → ((half : ℕ) → Inside size (entry half)) → AllInside size (table_of entry)
+pub table-inside : (size : ℕ) (ring : ℕ → Option Span) → ((half : ℕ) → Inside size (ring half)) → AllInside size (table_of ring)
 unfolding table_of
-table-inside size entry all = record { each = one }
+table-inside size ring all = record { each = one }
   where
-    one : (half : ℕ) → get_or (tab 84 (λ h. start_of (entry h))) half 0 + get_or (tab 84 (λ h. length_of (entry h))) half 0 ≤ size
+    one : (half : ℕ) → SpanInside size (get_or (map (λ h. span_of (ring h)) (range_with_len 0 84)) half no_span)
     one half =
         elim (dec_lt half 84) [
-          | yes l ↦ omega (arith, all half, get_d_tab 84 (λ h. start_of (entry h)) half l, get_d_tab 84 (λ h. length_of (entry h)) half l)
+          | yes l ↦
+              subst (SpanInside size)
+              (sym (get_or-map-range_with_len (λ h. span_of (ring h)) 0 84 half half no_span l (omega arith))) (all half)
           | no l ↦
-              let s : length (tab 84 (λ h. start_of (entry h))) ≤ half = omega (arith, length-tab 84 (λ h. start_of (entry h))) in
-              let n : length (tab 84 (λ h. length_of (entry h))) ≤ half = omega (arith, length-tab 84 (λ h. length_of (entry h))) in
-              omega (
-                arith,
-                get_or-eq_default (tab 84 (λ h. start_of (entry h))) 0 s,
-                get_or-eq_default
-                    (tab 84 (λ h. length_of (entry h))) 0 n,
-              )
+              let s : length (map (λ h. span_of (ring h)) (range_with_len 0 84)) ≤ half =
+              omega (arith, length-map-range_with_len (λ h. span_of (ring h)) 0 84) in
+              subst (SpanInside size) (sym (get_or-eq_default (map (λ h. span_of (ring h)) (range_with_len 0 84)) no_span s))
+              (absent_inside size)
         ]
 
--- ---- the ring of a track
-pub track-inside : (size : ℕ) (table : Table) (track : ℕ) → AllInside size table → Inside size (ring_place table track)
+-- ---- the ring of a half-track, and of a track
+pub half_inside : (size : ℕ) (rings : Rings) (half : ℕ) → AllInside size rings → Inside size (half_track rings half)
+half_inside size rings half all =
+    pick_ind (Inside size) (eqb (get_or rings.spans half no_span).length 0) None (Some (get_or rings.spans half no_span))
+    (λ e. absent_inside size) (λ e. all.each half)
+
+pub track-inside : (size : ℕ) (rings : Rings) (track : ℕ) → AllInside size rings → Inside size (ring_place rings track)
 unfolding ring_place
-track-inside size table track all =
-    pick_ind (Inside size) (eqb (get_or table.lengths (2 * (track - 1)) 0) 0) Absent
-    (At (get_or table.starts (2 * (track - 1)) 0) (get_or table.lengths (2 * (track - 1)) 0))
-    (λ e. absent_inside size) (λ e. all.each (2 * (track - 1)))
-
-module _ (table : Table) (t : ℕ) where
-  pub ring_absent : get_or table.lengths (2 * (t - 1)) 0 ≡ 0 → Absent ≡ ring_place table t
-  unfolding ring_place
-  ring_absent e = rw (eq-eqb _ 0 e)
-
-  pub ring_here : (get_or table.lengths (2 * (t - 1)) 0 ≡ 0 → ⊥)
-      → At (get_or table.starts (2 * (t - 1)) 0) (get_or table.lengths (2 * (t - 1)) 0) ≡ ring_place table t
-  unfolding ring_place
-  ring_here e = rw (ne_eqb _ 0 e)
+track-inside size rings track all = half_inside size rings (2 * (track - 1)) all

@@ -6,7 +6,6 @@ use Prim.Native.Nat.{ℕ, zero, suc, ◌<◌}
 use native.Mathlib.Omega.{arith}
 use lib.Dec.{eqb, leb}
 use lib.ListN.{length, get_or}
-use Rattle.base.specs.Choice.{pick}
 use Rattle.base.specs.Lists.{tab}
 use Rattle.base.proofs.DigitLaws.{Below, below-tab}
 use Rattle.base.proofs.Picks.{pick_ind, by_test}
@@ -24,7 +23,7 @@ use Rattle.track_build.specs.Blocks.{spoils}
 use Rattle.track_read.specs.Answers.{no_track, ring_statuses}
 use Rattle.track_read.specs.Reading.{read_statuses}
 use Rattle.track_read.specs.Statuses.{was_said, first_true, status_by}
-use Rattle.image_statuses.specs.Statuses.{status_by_code, d64_status, d64_statuses, half_of, g64_ring, statuses_by, statuses_of}
+use Rattle.image_statuses.specs.Statuses.{d64_status, d64_statuses, half_of, g64_ring, statuses_by, statuses_of}
 
 abbrev Digit : ℕ → Type 0
 Digit n = n < 10

@@ -1,12 +1,13 @@
 -- The statuses of a track: each way that the code goes.
 use mathlib.Core.Path.{◌≡◌, ap, sym, ◌∙◌}
+use mathlib.Core.Logic.{◌≢◌, ◌⊎◌, inl, inr}
 use mathlib.Core.Bool.{Bool, true, false}
 use mathlib.Core.List.{List, ◌++◌}
 use Prim.Native.Nat.{ℕ, ◌+◌, ◌-◌, ◌≤◌, ◌<◌}
 use native.Mathlib.Omega.{arith}
 use native.Mathlib.Nat.{sub-zero}
 use lib.Dec.{leb}
-use lib.ListN.{length, get_or, take, drop, replicate}
+use lib.ListN.{length, take, drop, replicate}
 use lib.Seq.{take_at}
 use Rattle.base.specs.Bytes.{any_nonzero}
 use Rattle.base.specs.Lists.{tab}
@@ -19,7 +20,10 @@ use Rattle.geometry.proofs.ZoneLaws.{sectors_of_lem}
 use Rattle.track_build.specs.Blocks.{spoils}
 use Rattle.track_read.specs.Answers.{no_track}
 use Rattle.track_read.proofs.StatusLaws.{Counts, none_count, ring_count}
-use Rattle.image_rings.specs.declared.Table.{Table}
+use Rattle.std.specs.Prelude.{Ok}
+use Rattle.image_rings.specs.declared.Rings.{Rings}
+use Rattle.image_rings.specs.Rings.{start_of, length_of, half_track}
+use Rattle.image_rings.proofs.TableLaws.{half_inside}
 use Rattle.image_d64.specs.D64.{error_byte}
 use Rattle.image_g64.specs.G64.{g64_table}
 use Rattle.image_g64.proofs.G64Inside.{g64_inside}
@@ -51,18 +55,12 @@ module _ (image : List ℕ) (highest track : ℕ) (before after : List ℕ) (n :
   d64_none h e = rw (leb_no track highest h, ← n) e
 
 -- ---- the ring of a half-track
-pub ring_of_lem : (image : List ℕ) (half : ℕ) (table : Table) → table ≡ g64_table image
-    → take (get_or table.starts half 0 + get_or table.lengths half 0 - get_or table.starts half 0)
-    (drop (get_or table.starts half 0) image)
-    ≡ g64_ring image half
-ring_of_lem image half table e =
-    let w : get_or table.starts half 0 + get_or table.lengths half 0 - get_or table.starts half 0 ≡ get_or table.lengths half 0
-    = omega arith in
-    rw (w, e)
+pub span-bytes : (image : List ℕ) (start long : ℕ) → take (start + long - start) (drop start image) ≡ take long (drop start image)
+span-bytes image start long = let w : start + long - start ≡ long = omega arith in rw w
 
-pub ring-inside : (image : List ℕ) (half : ℕ) (table : Table) → table ≡ g64_table image
-    → get_or table.starts half 0 + get_or table.lengths half 0 ≤ length image
-ring-inside image half table e = rw e ((g64_inside image).each half)
+pub ring-inside : (image : List ℕ) (half : ℕ) (rings : Rings) → g64_table image ≡ Ok rings
+    → start_of (half_track rings half) + length_of (half_track rings half) ≤ length image
+ring-inside image half rings e = half_inside (length image) rings half (g64_inside image rings e)
 
 pub no_track_lem : (part after : List ℕ) (track : ℕ) → length part ≡ sectors_of track → after ≡ replicate (length part) 0
     → after ≡ no_track track
@@ -73,13 +71,10 @@ module _ (image : List ℕ) (track : ℕ) where
   pub by_kind : (k : Kind) → kind_of image ≡ k → statuses_by image track k ≡ statuses_by image track (kind_of image)
   by_kind k e = ap (statuses_by image track) (sym e)
 
-  pub track-zero : track ≡ 0 → no_track track ≡ statuses_of image track
+  pub track_out : (track ≡ 0) ⊎ ((track ≢ 0) × (42 < track)) → no_track track ≡ statuses_of image track
   unfolding statuses_of
-  track-zero z = rw z
-
-  pub track_past : 42 < track → no_track track ≡ statuses_of image track
-  unfolding statuses_of
-  track_past h = rw (leb_yes 1 track (omega arith), leb_no track 42 h)
+  track_out (inl z) = rw z
+  track_out (inr h) = rw (leb_yes 1 track (omega arith), leb_no track 42 h.1)
 
   pub track_in_lem : 0 < track → track ≤ 42 → statuses_by image track (kind_of image) ≡ statuses_of image track
   unfolding statuses_of
@@ -133,7 +128,7 @@ statuses_read image before after track count h e c =
 
 -- ---- tracks to speak of
 module _ (track : ℕ) (statuses : List ℕ) where
-  pub shown_low : track ≤ 35 → true ≡ is_shown track statuses
+  pub shown_low : track ≤ 35 → leb track 35 ≡ is_shown track statuses
   unfolding is_shown
   shown_low h = rw (leb_yes track 35 h)
 

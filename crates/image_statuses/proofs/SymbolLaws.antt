@@ -1,12 +1,13 @@
 -- The first bad symbol of a track: each way that the code goes, and how large its numbers are.
 use mathlib.Core.Path.{◌≡◌, ap, sym}
+use mathlib.Core.Logic.{◌≢◌, ◌⊎◌, inl, inr}
 use mathlib.Core.List.{List}
 use Prim.Native.Nat.{ℕ, ◌≤◌, ◌<◌}
 use native.Mathlib.Omega.{arith}
+use Rattle.std.specs.Prelude.{None}
 use Rattle.base.proofs.Tests.{leb_yes, leb_no}
 use Rattle.base.proofs.Picks.{pick_ind}
 use Rattle.geometry.specs.Zones.{within}
-use Rattle.scan.specs.declared.BadSymbol.TheVariants.{NoneMet}
 use Rattle.scan_symbols.proofs.Bounds.{Small, of_small}
 use Rattle.nib_slots.specs.Slots.{ring_of}
 use Rattle.image_kind.specs.declared.Kind.{Kind}
@@ -19,13 +20,10 @@ module _ (image : List ℕ) (track : ℕ) where
   pub by_kind : (k : Kind) → kind_of image ≡ k → symbol_by image track k ≡ symbol_by image track (kind_of image)
   by_kind k e = ap (symbol_by image track) (sym e)
 
-  pub symbol-zero : track ≡ 0 → NoneMet ≡ symbol_of image track
+  pub symbol_out : (track ≡ 0) ⊎ ((track ≢ 0) × (42 < track)) → None ≡ symbol_of image track
   unfolding symbol_of
-  symbol-zero z = rw z
-
-  pub symbol_past : 42 < track → NoneMet ≡ symbol_of image track
-  unfolding symbol_of
-  symbol_past h = rw (leb_yes 1 track (omega arith), leb_no track 42 h)
+  symbol_out (inl z) = rw z
+  symbol_out (inr h) = rw (leb_yes 1 track (omega arith), leb_no track 42 h.1)
 
   pub symbol_in_lem : 0 < track → track ≤ 42 → symbol_by image track (kind_of image) ≡ symbol_of image track
   unfolding symbol_of
@@ -41,4 +39,4 @@ module _ (image : List ℕ) (track : ℕ) where
   pub symbol-small : Small 524280 (symbol_of image track)
   unfolding symbol_of
   symbol-small =
-      pick_ind (Small 524280) (within 1 42 track) (symbol_by image track (kind_of image)) NoneMet (λ e. kind-small (kind_of image)) (λ e. tt)
+      pick_ind (Small 524280) (within 1 42 track) (symbol_by image track (kind_of image)) None (λ e. kind-small (kind_of image)) (λ e. tt)

@@ -1,6 +1,6 @@
 -- The statuses of a track's sectors in an image of any kind: 1 for one that reads, else the number that says why it does not (2, 3, 4, 5
 -- or 9, track_read/Statuses); all 0 where the image has no such track.
-use Rattle.std.specs.Prelude.{ℕ, ◌-◌, ◌*◌, Bool, ◌||◌, List, ◌++◌, leb, length, get_or, take, drop}
+use Rattle.std.specs.Prelude.{ℕ, ◌-◌, ◌*◌, Bool, ◌||◌, List, [], ◌++◌, leb, length, drop, Option, Result, Ok, Err}
 use Rattle.base.specs.Choice.{pick}
 use Rattle.base.specs.Bytes.{any_nonzero}
 use Rattle.base.specs.Lists.{tab}
@@ -11,6 +11,10 @@ use Rattle.track_build.specs.Blocks.{spoils}
 use Rattle.track_read.specs.Answers.{no_track, ring_statuses}
 use Rattle.track_read.specs.Statuses.{given}
 use Rattle.nib_slots.specs.Slots.{ring_of}
+use Rattle.base.specs.declared.Refusal.{Refusal}
+use Rattle.image_rings.specs.declared.Span.{Span}
+use Rattle.image_rings.specs.declared.Rings.{Rings}
+use Rattle.image_rings.specs.Rings.{half_track, on_ring}
 use Rattle.image_g64.specs.G64.{g64_table}
 use Rattle.image_kind.specs.declared.Kind.{Kind}
 use Rattle.image_kind.specs.declared.Kind.TheVariants.{D64, G64, Nib, Unknown}
@@ -31,8 +35,16 @@ d64_statuses image highest track =
 abbrev pub half_of : ℕ → ℕ
 half_of track = 2 * (track - 1)
 
+abbrev pub bytes_of : List ℕ → Option Span → List ℕ
+bytes_of image ring = on_ring [] (λ bytes. bytes) image ring
+
+-- none where the image has no table
+abbrev pub ring_by : List ℕ → ℕ → Result Rings Refusal → List ℕ
+ring_by image half (Ok rings) = bytes_of image (half_track rings half)
+ring_by image half (Err why) = []
+
 abbrev pub g64_ring : List ℕ → ℕ → List ℕ
-g64_ring image half = take (get_or (g64_table image).lengths half 0) (drop (get_or (g64_table image).starts half 0) image)
+g64_ring image half = ring_by image half (g64_table image)
 
 -- ---- any kind
 abbrev pub statuses_by : List ℕ → ℕ → Kind → List ℕ

@@ -1,6 +1,5 @@
 -- What is printed for an input, and what `list_ring` answers, test by test.
-use mathlib.Core.Path.{◌≡◌, refl, sym, ◌∙◌, subst}
-use mathlib.Core.Logic.{◌≢◌}
+use mathlib.Core.Path.{◌≡◌, refl, sym, ap, ◌∙◌, subst}
 use mathlib.Core.Bool.{Bool, true, false, not}
 use mathlib.Core.List.{List, [], ◌∷◌}
 use Prim.Native.Nat.{ℕ, zero, suc, ◌≤◌, ◌<◌}
@@ -8,9 +7,9 @@ use native.Mathlib.Omega.{arith}
 use lib.Dec.{eqb, ltb}
 use lib.ListN.{length, length-append}
 use Rattle.base.specs.Lists.{joined, count_of}
-use Rattle.base.specs.Refusals.{ring_empty, ring_too_long, wrong_image, no_room, ◌when◌, refusal, unless}
+use Rattle.base.specs.Refusals.{ring_empty, ring_too_long, wrong_image, ◌when◌, refusal, unless}
 use Rattle.base.proofs.Tests.{ltb_yes, ltb_no}
-use Rattle.base.proofs.Refusing.{unless-some}
+use Rattle.base.proofs.Answering.{answer-value}
 use Rattle.base.proofs.InRow.{sets_front}
 use Rattle.base.proofs.Stores.{count_le}
 use Rattle.base.proofs.Rows.{joined_short}
@@ -21,16 +20,32 @@ use Rattle.track_read.proofs.ReadingLaws.{count_statuses}
 use Rattle.page_text.specs.Put.{Put}
 use Rattle.lister.specs.Envelope.{is_envelope, ring_in, track_in, start_in, longest_listed, input_refusal}
 use Rattle.lister.specs.Listing.{head_line, refusal_line, line_of, ring_lines, listing}
-use Rattle.lister.specs.Listing.{longest_listing, out_refusal, listed, out_after, listed_number}
+use Rattle.lister.specs.Listing.{longest_listing, out_refusal, listed, out_after}
 use Rattle.lister.proofs.Putting.{head_long, refused-long, line_short}
-use Rattle.lister.specs.declared.Listed.{Listed}
-use Rattle.lister.specs.declared.Listed.TheVariants.{Written, Refused}
+use Rattle.std.specs.Prelude.{Result, Ok, Err}
+use Rattle.base.specs.Answers.{number_of, answer, refusal_number}
+use Rattle.base.specs.declared.Refusal.{Refusal}
+use Rattle.base.specs.declared.Refusal.TheVariants.{NoRoom}
 
 -- ---- the listing, by the number of the input
+told : (a b c : Bool) → let n = refusal (wrong_image when a ∷ ring_empty when b ∷ ring_too_long when c ∷ []) in refusal_number (answer n (tt {0})) ≡ n
+told true b c = refl
+told false true c = refl
+told false false true = refl
+told false false false = refl
+
+refused_line : (n : ℕ) (why : Refusal) (good : List ℕ) → answer n (tt {0}) ≡ Err why → number_of why ≡ n
+    → refusal_line (number_of why) ≡ unless n refusal_line good
+refused_line zero why good e q = absurd (let z : ◌≡◌ {A = ℕ} 0 1 = cc in omega arith)
+refused_line (suc n) why good e q = ap refusal_line q
+
 module _ (input : List ℕ) where
-  pub refused-listing : (number : ℕ) → number ≡ input_refusal input → number ≢ 0 → refusal_line number ≡ listing input
+  pub refused-listing : (why : Refusal) → answer (input_refusal input) (tt {0}) ≡ Err why → refusal_line (number_of why) ≡ listing input
   unfolding listing
-  refused-listing number e z = sym (unless-some _ number _ _ e z)
+  refused-listing why e =
+      refused_line (input_refusal input) why _ e
+      (sym (ap refusal_number e)
+      ∙ told (not (is_envelope input)) (eqb (length (ring_in input)) 0) (ltb longest_listed (length (ring_in input))))
 
   pub ring-listing : input_refusal input ≡ 0 → (ring : List ℕ) (start : ℕ) → ring ≡ ring_in input → start ≡ start_in input
       → ring_lines ring (track_in input) start ≡ listing input
@@ -82,15 +97,15 @@ listing_short input h =
 
 -- ---- the answer
 module _ (input out : List ℕ) where
-  abbrev Out : Listed → List ℕ → Type 0
-  Out r after = (r ≡ listed input out) × (after ≡ out_after input out) × (listed_number r ≡ out_refusal out)
+  abbrev Out : Result ℕ Refusal → List ℕ → Type 0
+  Out r after = (r ≡ listed input out) × (after ≡ out_after input out) × (refusal_number r ≡ out_refusal out)
 
-  pub no_room_lem : length out < longest_listing → Out (Refused no_room) out
+  pub no_room_lem : length out < longest_listing → Out (Err NoRoom) out
   unfolding listed out_after
   no_room_lem h = let e = ltb_yes (length out) longest_listing h in (rw e, rw e, rw e)
 
   pub all_listed : longest_listing ≤ length out → track_in input < 256 → (after : List ℕ) (n : ℕ) → Put out 0 (listing input) after n
-      → Out (Written n) after
+      → Out (Ok n) after
   unfolding listed out_after
   all_listed h b after n p =
       let e = ltb_no (length out) longest_listing h in
@@ -99,11 +114,8 @@ module _ (input out : List ℕ) where
       (rw (e, k), rw e (p.written ∙ sets_front (listing input) out (length (listing input)) refl (omega arith)), rw e)
 
 -- what a caller may count on: never more than the longest listing is written
-pub written_short : (input out : List ℕ) → track_in input < 256 → (answer : Listed) (n : ℕ) → answer ≡ listed input out → answer ≡ Written n
+pub written_short : (input out : List ℕ) → track_in input < 256 → (told : Result ℕ Refusal) (n : ℕ) → told ≡ listed input out → told ≡ Ok n
     → n ≤ longest_listing
 unfolding listed
-written_short input out h answer n e w = go (ltb (length out) longest_listing) (sym w ∙ e)
-  where
-    go : (b : Bool) → Written n ≡ unless (refusal (no_room when b ∷ [])) Refused (Written (length (listing input))) → n ≤ longest_listing
-    go false q = let k : n ≡ length (listing input) = cc in omega (arith, listing_short input h)
-    go true q = absurd (let z : ◌≡◌ {A = ℕ} 0 1 = cc in omega arith)
+written_short input out h told n e w =
+    omega (arith, answer-value (out_refusal out) (length (listing input)) n (sym e ∙ w), listing_short input h)

@@ -6,15 +6,16 @@ use mathlib.Core.List.{List, [], ◌∷◌}
 use Prim.Native.Nat.{ℕ, ◌-◌, ◌≤◌, ◌<◌}
 use native.Mathlib.Omega.{arith}
 use lib.Dec.{eqb, leb, ltb, leb→le}
-use lib.ListN.{length, take, drop, length-drop}
-use lib.Seq.{take_all}
+use lib.ListN.{length, take, length-drop}
 use Rattle.base.specs.Bytes.{same_bytes, two_bytes}
 use Rattle.base.specs.Refusals.{ring_empty, ring_too_long, wrong_image, ◌when◌, refusal}
 use Rattle.base.specs.Words.{ascii}
 use Rattle.base.proofs.Picks.{never}
-use Rattle.base.proofs.Refusing.{unless-some}
+use Rattle.std.specs.Prelude.{Err, Option, None}
+use Rattle.base.specs.Answers.{answer}
+use Rattle.base.specs.declared.Refusal.{Refusal}
+use Rattle.base.proofs.Answering.{unless-err}
 use Rattle.base.proofs.Tests.{eqb_yes, eqb_no, ltb_yes, ltb_no, leb_yes, leb_no, from_true, le_of}
-use Rattle.scan.specs.declared.BadSymbol.TheVariants.{NoneMet}
 use Rattle.scan_symbols.specs.First.{first_bad_of}
 use Rattle.lister.specs.Envelope.{is_envelope, ring_in, track_in, start_in, longest_listed, input_refusal, symbol_in}
 
@@ -82,15 +83,11 @@ is_good input e = by (is_envelope input) refl (eqb (length (ring_in input)) 0) r
           short = le_of longest_listed (length (ring_in input)) r;
         }
 
--- the ring as the code has it, the part from byte 10 on
-pub rest_is : (input : List ℕ) → take (length input - 10) (drop 10 input) ≡ ring_in input
-rest_is input = take_all (length input - 10) (drop 10 input) (omega (arith, length-drop 10 input))
-
 -- ---- the first bad symbol of its ring
 module _ (input : List ℕ) where
-  pub no_symbol : (number : ℕ) → number ≡ input_refusal input → number ≢ 0 → NoneMet ≡ symbol_in input
+  pub no_symbol : (why : Refusal) → answer (input_refusal input) (tt {0}) ≡ Err why → None ≡ symbol_in input
   unfolding symbol_in
-  no_symbol number e z = sym (unless-some _ number _ _ e z)
+  no_symbol why e = sym (unless-err (input_refusal input) (tt {0}) why None _ e)
 
   pub its_symbol : input_refusal input ≡ 0 → (ring : List ℕ) (start : ℕ) → ring ≡ ring_in input → start ≡ start_in input
       → first_bad_of ring (track_in input) start ≡ symbol_in input

@@ -13,12 +13,11 @@ use Rattle.base.specs.Lists.{joined, count_of}
 use Rattle.base.proofs.Stores.{joined_same, count_le}
 use Rattle.geometry.specs.Zones.{sectors_of}
 use Rattle.geometry.proofs.ZoneLaws.{sectors_of_lem}
-use Rattle.scan.specs.declared.BadSymbol.{BadSymbol}
-use Rattle.scan.specs.BadSymbols.{bad_symbol}
+use Rattle.std.specs.Prelude.{Result, Ok, Err}
+use Rattle.base.specs.declared.Refusal.{Refusal}
 use Rattle.track_read.specs.declared.TrackRead.{TrackRead}
-use Rattle.track_read.specs.declared.TrackRead.TheVariants.{Found, Refused as NotRead}
 use Rattle.track_read.specs.Reading.{read_sector, read_payloads, read_statuses}
-use Rattle.track_read.specs.Answers.{read_refusal, track_read, track_payloads, track_statuses}
+use Rattle.track_read.specs.Answers.{read_refusal, found_on, track_read, track_payloads, track_statuses}
 use Rattle.track_read.proofs.ReadingLaws.{count_statuses, stands}
 use Rattle.track_read.proofs.Refusing.{none-refused}
 use Rattle.page_text.specs.Put.{Put}
@@ -35,7 +34,7 @@ module _ (ring : List ℕ) (track start : ℕ) where
         none-refused ring track start payloads statuses (omega arith) (omega arith) (record { some = some; small = small })
 
     pub is_found : track_read ring track start payloads statuses
-        ≡ Found (count_of 1 (read_statuses ring track start)) (bad_symbol ring track start)
+        ≡ Ok (found_on ring track start)
     unfolding track_read
     is_found = rw taken
 
@@ -48,23 +47,27 @@ module _ (ring : List ℕ) (track start : ℕ) where
     is_told = rw taken
 
     -- the answer of `decode_track_from` is how many there are, at most 21, and no refusal
-    pub found_is : (answer : TrackRead) (n : ℕ) (bad : BadSymbol) → answer ≡ track_read ring track start payloads statuses
-        → answer ≡ Found n bad → n ≡ count_of 1 (read_statuses ring track start)
-    found_is answer n bad e g = let f = is_found in cc
+    pub found_is : (answer : Result TrackRead Refusal) (read : TrackRead) → answer ≡ track_read ring track start payloads statuses
+        → answer ≡ Ok read → read.found ≡ count_of 1 (read_statuses ring track start)
+    found_is answer read e g =
+        let f = is_found in
+        let q : found_on ring track start ≡ read = cc in
+        sym (ap (λ (r : TrackRead). r.found) q)
 
-    pub few_found : (answer : TrackRead) (n : ℕ) (bad : BadSymbol) → answer ≡ track_read ring track start payloads statuses
-        → answer ≡ Found n bad → n ≤ 21
-    few_found answer n bad e g =
+    pub few_found : (answer : Result TrackRead Refusal) (read : TrackRead) → answer ≡ track_read ring track start payloads statuses
+        → answer ≡ Ok read → read.found ≤ 21
+    few_found answer read e g =
         omega (
           arith,
-          found_is answer n bad e g,
+          found_is answer read e g,
           count_le 1 (read_statuses ring track start),
           count_statuses ring track start,
           (sectors_of_lem track).1,
         )
 
-    pub refusal-none : (answer : TrackRead) (n : ℕ) → answer ≡ track_read ring track start payloads statuses → answer ≡ NotRead n → ⊥
-    refusal-none answer n e g = let f = is_found in let z : ◌≡◌ {A = ℕ} 0 1 = cc in omega arith
+    pub refusal-none : (answer : Result TrackRead Refusal) (why : Refusal) → answer ≡ track_read ring track start payloads statuses
+        → answer ≡ Err why → ⊥
+    refusal-none answer why e g = let f = is_found in let z : ◌≡◌ {A = ℕ} 0 1 = cc in omega arith
 
   -- ---- the lines by what reading leaves are those by the readings
   module _ (rest more : List ℕ) where
@@ -80,15 +83,15 @@ module _ (ring : List ℕ) (track start : ℕ) where
 
   module _ (payloads statuses : List ℕ) (h : 5376 ≤ length payloads) (k : 21 ≤ length statuses) (some : 0 < length ring)
       (small : length ring ≤ longest_ring) where
-    pub ring_put : (answer : TrackRead) (n : ℕ) (bad : BadSymbol) (ps ss out after : List ℕ) (behind : ℕ)
-        → answer ≡ track_read ring track start payloads statuses → answer ≡ Found n bad
+    pub ring_put : (answer : Result TrackRead Refusal) (read : TrackRead) (ps ss out after : List ℕ) (behind : ℕ)
+        → answer ≡ track_read ring track start payloads statuses → answer ≡ Ok read
         → ps ≡ track_payloads ring track start payloads statuses → ss ≡ track_statuses ring track start payloads statuses
-        → Put out 0 (head_line track n (sectors_of track) ++ lines (sectors_of track) ss ps) after behind
+        → Put out 0 (head_line track read.found (sectors_of track) ++ lines (sectors_of track) ss ps) after behind
         → Put out 0 (ring_lines ring track start) after behind
     unfolding ring_lines
-    ring_put answer n bad ps ss out after behind e g p s put =
-        let f : head_line track n (sectors_of track) ≡ head_line track (count_of 1 (read_statuses ring track start)) (sectors_of track)
-        = ap (λ (m : ℕ). head_line track m (sectors_of track)) (found_is payloads statuses h k some small answer n bad e g) in
+    ring_put answer read ps ss out after behind e g p s put =
+        let f : head_line track read.found (sectors_of track) ≡ head_line track (count_of 1 (read_statuses ring track start)) (sectors_of track)
+        = ap (λ (m : ℕ). head_line track m (sectors_of track)) (found_is payloads statuses h k some small answer read e g) in
         let l : lines (sectors_of track) ss ps ≡ joined (sectors_of track) (λ j. line_of j (read_sector ring track start j))
         = ap₂ (λ (a b : List ℕ). lines (sectors_of track) a b) (s ∙ is_told payloads statuses h k some small)
         (p ∙ is_laid payloads statuses h k some small)

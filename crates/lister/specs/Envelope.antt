@@ -1,10 +1,9 @@
 -- The ring lister's input: TRK, a 16-bit version 1, a track byte, a 32-bit start bit (low byte first), and the ring to the end.
-use Rattle.std.specs.Prelude.{ℕ, Bool, not, ◌&&◌, List, [], ◌∷◌, eqb, ltb, leb, length, get_or, take, drop}
+use Rattle.std.specs.Prelude.{ℕ, Bool, not, ◌&&◌, List, [], ◌∷◌, eqb, ltb, leb, length, get_or, take, drop, Option, None}
 use Rattle.base.specs.Bytes.{same_bytes, two_bytes, four_bytes}
 use Rattle.base.specs.Refusals.{ring_empty, ring_too_long, wrong_image, ◌when◌, refusal, unless}
 use Rattle.base.specs.Words.{ascii}
 use Rattle.scan.specs.declared.BadSymbol.{BadSymbol}
-use Rattle.scan.specs.declared.BadSymbol.TheVariants.{NoneMet}
 use Rattle.scan_symbols.specs.First.{first_bad_of}
 
 -- at least ten bytes, the letters, and version 1
@@ -33,5 +32,5 @@ input_refusal input =
     ∷ [])
 
 -- the first bad symbol of its ring, which the listing does not tell
-unfoldable pub symbol_in : List ℕ → BadSymbol
-symbol_in input = unless (input_refusal input) (λ n. NoneMet) (first_bad_of (ring_in input) (track_in input) (start_in input))
+unfoldable pub symbol_in : List ℕ → Option BadSymbol
+symbol_in input = unless (input_refusal input) (λ n. None) (first_bad_of (ring_in input) (track_in input) (start_in input))

@@ -1,14 +1,14 @@
 -- What the ring lister prints, byte for byte (ASCII).
-use Rattle.std.specs.Prelude.{ℕ, List, [], ◌∷◌, ◌++◌, ltb, length, drop}
+use Rattle.std.specs.Prelude.{ℕ, List, [], ◌∷◌, ◌++◌, ltb, length, drop, Result}
 use Rattle.base.specs.Lists.{joined, xor_of, count_of}
 use Rattle.base.specs.Refusals.{no_room, ◌when◌, refusal, unless}
+use Rattle.base.specs.Answers.{answer}
 use Rattle.base.specs.Words.{ascii}
+use Rattle.base.specs.declared.Refusal.{Refusal}
 use Rattle.geometry.specs.Zones.{sectors_of}
 use Rattle.track_read.specs.Reading.{Handed, Given, NotGiven, read_sector, read_statuses}
 use Rattle.page_text.specs.Numerals.{decimal, decimal_of, hex_of}
 use Rattle.lister.specs.Envelope.{track_in, start_in, ring_in, input_refusal}
-use Rattle.lister.specs.declared.Listed.{Listed}
-use Rattle.lister.specs.declared.Listed.TheVariants.{Written, Refused}
 
 -- the first line: track, number found, sector count, in decimal
 unfoldable pub head_line : ℕ → ℕ → ℕ → List ℕ
@@ -44,13 +44,8 @@ longest_listing = 382
 abbrev pub out_refusal : List ℕ → ℕ
 out_refusal out = refusal (no_room when ltb (length out) longest_listing ∷ [])
 
-unfoldable pub listed : List ℕ → List ℕ → Listed
-listed input out = unless (out_refusal out) Refused (Written (length (listing input)))
+unfoldable pub listed : List ℕ → List ℕ → Result ℕ Refusal
+listed input out = answer (out_refusal out) (length (listing input))
 
 unfoldable pub out_after : List ℕ → List ℕ → List ℕ
 out_after input out = unless (out_refusal out) (λ n. out) (listing input ++ drop (length (listing input)) out)
-
--- the number of an answer: 0 where the listing was written
-abbrev pub listed_number : Listed → ℕ
-listed_number (Written n) = 0
-listed_number (Refused number) = number

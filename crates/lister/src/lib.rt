@@ -1,23 +1,17 @@
 // The ring lister: a ring behind a small header in, a line for each sector found on it out. And the first bad symbol of such a ring, which
 // the listing does not tell.
-ghost use Rattle.std.specs.Prelude.{◌≡◌, ◌++◌, ◌+◌, ◌*◌, ◌<◌, ◌≤◌, length};
+ghost use Rattle.std.specs.Prelude.{◌≡◌, ◌++◌, ◌+◌, ◌*◌, ◌<◌, ◌≤◌, length, Err, MatchResult};
+ghost use Rattle.base.specs.Answers.{number_of, answer, refusal_number};
 ghost use Rattle.geometry.specs.Zones.{sectors_of};
 ghost use Rattle.page_text.specs.Numerals.{decimal};
 ghost use Rattle.page_text.specs.Put.{Put};
-ghost use Rattle.lister.specs.Envelope.{is_envelope, longest_listed, input_refusal, symbol_in};
+ghost use Rattle.lister.specs.Envelope.{is_envelope, track_in, start_in, ring_in, longest_listed, input_refusal, symbol_in};
 ghost use Rattle.lister.specs.Listing.{head_line, sector_line, refusal_line, ring_lines, listing};
-ghost use Rattle.lister.specs.Listing.{longest_listing, out_refusal, listed, out_after, listed_number};
+ghost use Rattle.lister.specs.Listing.{longest_listing, out_refusal, listed, out_after};
 ghost use Rattle.lister.specs.Inside.{line_at, lines};
 
+use base::Refusal;
 use scan::BadSymbol;
-use track_read::TrackRead;
-
-// What listing answers: how many bytes are written, or a refusal number.
-#[derive(Drop)]
-pub enum Listed {
-    Written(usize),
-    Refused(u8),
-}
 
 // The longest listing: a first line of 25 bytes, and 17 for each of 21 sectors.
 pub const LONGEST_LISTING: usize = 382;
@@ -32,37 +26,56 @@ fn is_envelope(input: &[u8]) -> bool
     if input.len() < 10 {
         return false;
     }
-    if base::same_bytes(&input[..3], b"TRK") {
-        return base::read_word(input, 3) == 1;
-    }
-    false
+    base::same_bytes(&input[..3], b"TRK") && base::read_word(input, 3) == 1
 }
 
-// The number by which an input is refused, 0 where it is not.
-pub fn input_refusal(input: &[u8]) -> u8
-    ensures { result ≡ input_refusal input.now }
+// Is this an input that is listed, or why not?
+pub fn check_input(input: &[u8]) -> Result<(), Refusal>
+    ensures { result ≡ answer (input_refusal input.now) tt }
 {
-    if is_envelope(input) {
-        let bytes = input.len() - 10;
-        if bytes == 0 {
-            return base::RING_EMPTY;
-        }
-        if MAX_LISTED < bytes {
-            return base::RING_TOO_LONG;
-        }
-        return 0;
+    if !is_envelope(input) {
+        return Err(Refusal::WrongImage);
     }
-    base::WRONG_IMAGE
+    let bytes = input.len() - 10;
+    if bytes == 0 {
+        return Err(Refusal::RingEmpty);
+    }
+    if MAX_LISTED < bytes {
+        return Err(Refusal::RingTooLong);
+    }
+    Ok(())
+}
+
+// What an input holds: a ring, the track that it is read as, and the bit to start at.
+#[derive(Clone, Copy)]
+struct Envelope<'a> {
+    ring: &'a [u8],
+    track: u8,
+    start: usize,
+}
+
+fn open_envelope(input: &[u8]) -> Result<Envelope<'_>, Refusal>
+    ensures { MatchResult result
+        (λ e. (input_refusal input.now ≡ 0) × (e.ring.now ≡ ring_in input.now)
+        × (e.track ≡ track_in input.now) × (e.start ≡ start_in input.now))
+        (λ why. answer (input_refusal input.now) (tt {0}) ≡ Err why) }
+{
+    check_input(input)?;
+    Ok(Envelope {
+        ring: &input[10..],
+        track: input[5],
+        start: base::read_long(input, 6),
+    })
 }
 
 // The first bad symbol of the ring in an input; none where the input is refused.
-pub fn ring_symbol(input: &[u8]) -> BadSymbol
+pub fn ring_symbol(input: &[u8]) -> Option<BadSymbol>
     ensures { result ≡ symbol_in input.now }
 {
-    if input_refusal(input) != 0 {
-        return BadSymbol::NoneMet;
+    match open_envelope(input) {
+        Ok(e) => scan_symbols::first_bad(e.ring, e.track, e.start),
+        Err(_) => None,
     }
-    scan_symbols::first_bad(&input[10..], input[5], base::read_long(input, 6))
 }
 
 // A word and a number in decimal.
@@ -80,18 +93,18 @@ fn put_head(out: &mut [u8], track: u8, found: usize, count: u8) -> usize
     requires found_bound { (found ≤ 21) × (count ≤ 21) }
     ensures { Put out.old 0 (head_line track found count) out.new result }
 {
-    let a = put_number(out, 0, b"track ", track as u64);
+    let a = put_number(out, 0, b"track ", u64::from(track));
     let b = put_number(out, a, b" found ", found as u64);
-    let c = put_number(out, b, b" of ", count as u64);
+    let c = put_number(out, b, b" of ", u64::from(count));
     page_text::put_bytes(out, c, b"\n")
 }
 
 // The line of a refused input.
-fn put_refused(out: &mut [u8], number: u8) -> usize
+fn put_refused(out: &mut [u8], why: Refusal) -> usize
     requires { 25 ≤ length out.old }
-    ensures { Put out.old 0 (refusal_line number) out.new result }
+    ensures { Put out.old 0 (refusal_line (number_of why)) out.new result }
 {
-    let a = put_number(out, 0, b"refused ", number as u64);
+    let a = put_number(out, 0, b"refused ", u64::from(why.number()));
     page_text::put_bytes(out, a, b"\n")
 }
 
@@ -115,7 +128,7 @@ fn put_sector(out: &mut [u8], at: usize, sector: u8, statuses: &[u8], payloads: 
     requires sector_in_bounds { (sector < length statuses.now) × (256 * sector + 256 ≤ length payloads.now) }
     ensures { Put out.old at (line_at statuses.now payloads.now sector) out.new result }
 {
-    let j = sector as usize;
+    let j = usize::from(sector);
     if statuses[j] != track_read::HANDED_OUT {
         return at;
     }
@@ -131,10 +144,8 @@ fn put_sectors(out: &mut [u8], at: usize, count: u8, statuses: &[u8], payloads: 
     ensures { Put out.old at (lines count statuses.now payloads.now) out.new result }
 {
     let mut behind = at;
-    let mut sector: u8 = 0;
-    while sector < count {
+    for sector in 0..count {
         behind = put_sector(out, behind, sector, statuses, payloads);
-        sector += 1;
     }
     behind
 }
@@ -162,8 +173,9 @@ fn put_ring(out: &mut [u8], ring: &[u8], track: u8, start: usize) -> usize
     let mut statuses = [0u8; 21];
     let answer = track_read::decode_track_from(ring, track, start, &mut payloads, &mut statuses);
     match answer {
-        TrackRead::Found(found, _) => put_track(out, track, found, &statuses, &payloads),
-        TrackRead::Refused(number) => put_refused(out, number),
+        Ok(read) => put_track(out, track, read.found, &statuses, &payloads),
+        // The input has a ring of a length that is read.
+        Err(_) => unreachable!(),
     }
 }
 
@@ -172,22 +184,21 @@ fn put_listing(out: &mut [u8], input: &[u8]) -> usize
     requires { longest_listing ≤ length out.old }
     ensures { Put out.old 0 (listing input.now) out.new result }
 {
-    let number = input_refusal(input);
-    if number != 0 {
-        return put_refused(out, number);
+    match open_envelope(input) {
+        Ok(e) => put_ring(out, e.ring, e.track, e.start),
+        Err(why) => put_refused(out, why),
     }
-    put_ring(out, &input[10..], input[5], base::read_long(input, 6))
 }
 
-// What is printed for an input: the sectors found on its ring, or the refusal. Room for the longest listing is needed,
-// whatever it lists.
-pub fn list_ring(input: &[u8], out: &mut [u8]) -> Listed
+// What is printed for an input, and how many bytes it has: the sectors found on its ring, or the refusal. Room for the longest listing
+// is needed, whatever it lists.
+pub fn list_ring(input: &[u8], out: &mut [u8]) -> Result<usize, Refusal>
     ensures { (result ≡ listed input.now out.old)
         × (out.new ≡ out_after input.now out.old)
-        × (listed_number result ≡ out_refusal out.old) }
+        × (refusal_number result ≡ out_refusal out.old) }
 {
     if out.len() < LONGEST_LISTING {
-        return Listed::Refused(base::NO_ROOM);
+        return Err(Refusal::NoRoom);
     }
-    Listed::Written(put_listing(out, input))
+    Ok(put_listing(out, input))
 }

@@ -1,77 +1,64 @@
 -- Laws of the catalogue, in the code's terms: what a turn of a loop that counts down tells, and a case for each way that the code goes.
 use Prim.Native.Nat.{ℕ, zero, suc, ◌+◌, ◌-◌, ◌*◌, ◌≤◌, ◌<◌}
 use mathlib.Core.Path.{◌≡◌, refl, sym, ap, ◌∙◌}
-use mathlib.Core.Bool.{Bool, true, false, not, ◌&&◌}
+use mathlib.Core.Bool.{Bool, true, false, not, ◌&&◌, ◌||◌}
 use mathlib.Core.List.{List, [], ◌∷◌}
 use native.Mathlib.Omega.{arith}
+use native.Mathlib.Decide.{ℕ_discrete}
 use lib.Dec.{eqb, ltb, leb}
 use lib.ListN.{length, take, drop}
-use borrow.Author.Tests.{eq-eqb, ne_eqb, lt-ltb, le-ltb, le-leb, lt-leb, leb-true}
+use borrow.Author.Tests.{eq-eqb, ne_eqb, lt-ltb, le-ltb, leb-true}
 use Rattle.base.proofs.Tests.{le_of}
 use Rattle.base.specs.Choice.{pick}
 use Rattle.base.specs.Bytes.{same_bytes}
-use Rattle.base.specs.Refusals.{wrong_image, wrong_entries, ◌when◌, refusal, unless}
-use Rattle.nib_catalogue.specs.Catalogue.{signature, is_nib, code_at, pairs_from, pairs, among}
-use Rattle.nib_catalogue.specs.Catalogue.{window_start, window_at, faulty, any_faulty, catalogue_refusal, catalogue_of, entry_with}
-use Rattle.nib_catalogue.specs.declared.Pairs.TheVariants.{Count, Refused}
-use Rattle.nib_catalogue.specs.declared.Entry.{Entry}
-use Rattle.nib_catalogue.specs.declared.Entry.TheVariants.{Absent, At}
+use Rattle.base.specs.Refusals.{wrong_image, wrong_entries, ◌when◌, refusal}
+use Rattle.nib_catalogue.specs.Catalogue.{is_nib, code_at, pairs_from, pairs}
+use Rattle.nib_catalogue.specs.Catalogue.{window_start, window_at, any_faulty, catalogue_refusal, catalogue_of, entry_with}
+use Rattle.base.specs.declared.Refusal.TheVariants.{WrongImage, WrongEntries}
+use Rattle.base.proofs.Answering.{answer-ok, answer-value}
+use Rattle.std.specs.Prelude.{Option, Some, None, Ok, Err}
+use Rattle.std.specs.Cmp.Lexicographic.{pointwise}
+use Rattle.std.specs.List.{list_any, range_with_len}
 
--- ---- loops that count down
+-- ---- a test of each pair
 
-pub back : (k : ℕ) → 0 < k → k ≡ suc (k - 1)
-back k h = omega arith
+or_swap : (a b c : Bool) → a || (b || c) ≡ b || (a || c)
+or_swap true true c = refl
+or_swap true false c = refl
+or_swap false true c = refl
+or_swap false false c = refl
 
-module _ (file : List ℕ) (c : ℕ) where
-  pub among_none : (k : ℕ) → k ≡ 0 → false ≡ among file c k
-  unfolding among
-  among_none k e = rw e
+any_last : (test : ℕ → Bool) (a n : ℕ) → list_any test (range_with_len a (suc n)) ≡ test (a + n) || list_any test (range_with_len a n)
+any_last test a zero = let e : a + 0 ≡ a = omega arith in rw e
+any_last test a (suc n) =
+    let e : a + 1 + n ≡ a + suc n = omega arith in
+    ap (λ (b : Bool). test a || b) (any_last test (a + 1) n ∙ rw e)
+    ∙ or_swap (test a) (test (a + suc n)) (list_any test (range_with_len (a + 1) n))
 
-  pub place_none : (k : ℕ) → k ≡ 0 → Absent ≡ entry_with file c k
+-- `any` of a test of each number below n is the recursion r that tests them from the last one down
+pub any_below : (r test : ℕ → Bool) → r 0 ≡ false → ((n : ℕ) → r (suc n) ≡ test n || r n) → (n : ℕ)
+    → list_any test (range_with_len 0 n) ≡ r n
+any_below r test z s zero = sym z
+any_below r test z s (suc n) =
+    let e : 0 + n ≡ n = omega arith in
+    any_last test 0 n ∙ rw (e, any_below r test z s n) (sym (s n))
+
+-- which pair has a code, counting down
+pub place_none : (file : List ℕ) (c k : ℕ) → k ≡ 0 → None ≡ entry_with file c k
+unfolding entry_with
+place_none file c k e = rw e
+
+module _ (file : List ℕ) (c k : ℕ) (h : 0 < k) where
+  back : k ≡ suc (k - 1)
+  back = omega arith
+
+  pub place_here : code_at file (k - 1) ≡ c → entry_with file c k ≡ Some (k - 1)
   unfolding entry_with
-  place_none k e = rw e
+  place_here e = ap (entry_with file c) back ∙ rw (eq-eqb (code_at file (k - 1)) c e)
 
-  module _ (k : ℕ) (h : 0 < k) where
-    pub among_here : code_at file (k - 1) ≡ c → among file c k ≡ true
-    unfolding among
-    among_here e = ap (among file c) (back k h) ∙ rw (eq-eqb (code_at file (k - 1)) c e)
-
-    pub among-on : (code_at file (k - 1) ≡ c → ⊥) → among file c k ≡ among file c (k - 1)
-    unfolding among
-    among-on n = ap (among file c) (back k h) ∙ rw (ne_eqb (code_at file (k - 1)) c n)
-
-    pub place_here : code_at file (k - 1) ≡ c → entry_with file c k ≡ At (k - 1)
-    unfolding entry_with
-    place_here e = ap (entry_with file c) (back k h) ∙ rw (eq-eqb (code_at file (k - 1)) c e)
-
-    pub place-on : (code_at file (k - 1) ≡ c → ⊥) → entry_with file c k ≡ entry_with file c (k - 1)
-    unfolding entry_with
-    place-on n = ap (entry_with file c) (back k h) ∙ rw (ne_eqb (code_at file (k - 1)) c n)
-
-module _ (file : List ℕ) where
-  pub fault_none : (k : ℕ) → k ≡ 0 → false ≡ any_faulty file k
-  unfolding any_faulty
-  fault_none k e = rw e
-
-  module _ (k : ℕ) (h : 0 < k) where
-    pub fault_here : faulty file (k - 1) ≡ true → any_faulty file k ≡ true
-    unfolding any_faulty
-    fault_here e = ap (any_faulty file) (back k h) ∙ rw e
-
-    pub fault_on : faulty file (k - 1) ≡ false → any_faulty file k ≡ any_faulty file (k - 1)
-    unfolding any_faulty
-    fault_on e = ap (any_faulty file) (back k h) ∙ rw e
-
-  module _ (k : ℕ) where
-    pub faulty_low : code_at file k < 2 → faulty file k ≡ true
-    faulty_low h = rw (lt-ltb (code_at file k) 2 h)
-
-    module _ (l : 2 ≤ code_at file k) where
-      pub faulty_high : 86 ≤ code_at file k → faulty file k ≡ true
-      faulty_high h = rw (le-ltb (code_at file k) 2 l, le-leb 86 (code_at file k) h)
-
-      pub faulty_again : code_at file k < 86 → (b : Bool) → b ≡ among file (code_at file k) k → faulty file k ≡ b
-      faulty_again h b e = rw (le-ltb (code_at file k) 2 l, lt-leb 86 (code_at file k) h, e)
+  pub place-on : (code_at file (k - 1) ≡ c → ⊥) → entry_with file c k ≡ entry_with file c (k - 1)
+  unfolding entry_with
+  place-on n = ap (entry_with file c) back ∙ rw (ne_eqb (code_at file (k - 1)) c n)
 
 -- ---- the number of pairs
 
@@ -98,15 +85,21 @@ module _ (file : List ℕ) (k : ℕ) where
 
 -- ---- is it a NIB file
 
+same_eqb : (x y : ℕ) → eqb y x ≡ eqb x y
+same_eqb x y =
+    elim (ℕ_discrete x y) [
+      | yes e ↦ rw (eq-eqb y x (sym e), eq-eqb x y e)
+      | no n ↦ rw (ne_eqb y x (λ e. n (sym e)), ne_eqb x y n)
+    ]
+
+pub same_pointwise : (xs ys : List ℕ) → pointwise eqb ys xs ≡ same_bytes xs ys
+unfolding same_bytes
+same_pointwise [] [] = refl
+same_pointwise [] (y ∷ ys) = refl
+same_pointwise (x ∷ xs) [] = refl
+same_pointwise (x ∷ xs) (y ∷ ys) = rw (same_eqb x y, same_pointwise xs ys)
+
 module _ (file : List ℕ) where
-  pub nib_short : length file < 256 → false ≡ is_nib file
-  unfolding is_nib
-  nib_short h = rw (lt-leb 256 (length file) h)
-
-  pub nib_signed : (b : Bool) → 256 ≤ length file → b ≡ same_bytes (take (13 - 0) (drop 0 file)) signature → b ≡ is_nib file
-  unfolding is_nib
-  nib_signed b h e = rw (le-leb 256 (length file) h) e
-
   long_by : (a b : Bool) → a && b ≡ true → a ≡ true
   long_by true b e = refl
   long_by false b e = e
@@ -118,26 +111,26 @@ module _ (file : List ℕ) where
 -- ---- the refusals
 
 module _ (file : List ℕ) where
-  pub file_other : is_nib file ≡ false → Refused wrong_image ≡ catalogue_of file
+  pub file_other : is_nib file ≡ false → Err WrongImage ≡ catalogue_of file
   unfolding catalogue_of catalogue_refusal
   file_other e = rw e
 
   module _ (s : is_nib file ≡ true) (n : ℕ) (q : n ≡ pairs file) where
-    pub file_empty : n ≡ 0 → Refused wrong_entries ≡ catalogue_of file
+    pub file_empty : n ≡ 0 → Err WrongEntries ≡ catalogue_of file
     unfolding catalogue_of catalogue_refusal
     file_empty e = rw (s, ← q, eq-eqb n 0 e)
 
     module _ (z : n ≡ 0 → ⊥) where
-      pub file_faulty : any_faulty file n ≡ true → Refused wrong_entries ≡ catalogue_of file
+      pub file_faulty : any_faulty file n ≡ true → Err WrongEntries ≡ catalogue_of file
       unfolding catalogue_of catalogue_refusal
       file_faulty e = rw (s, ← q, ne_eqb n 0 z, e)
 
       module _ (f : any_faulty file n ≡ false) where
-        pub file_cut : length file < 256 + 8192 * n → Refused wrong_entries ≡ catalogue_of file
+        pub file_cut : length file < 256 + 8192 * n → Err WrongEntries ≡ catalogue_of file
         unfolding catalogue_of catalogue_refusal
         file_cut e = rw (s, ← q, ne_eqb n 0 z, f, lt-ltb (length file) (256 + 8192 * n) e)
 
-        pub file_good : 256 + 8192 * n ≤ length file → Count n ≡ catalogue_of file
+        pub file_good : 256 + 8192 * n ≤ length file → Ok n ≡ catalogue_of file
         unfolding catalogue_of catalogue_refusal
         file_good e = rw (s, ← q, ne_eqb n 0 z, f, le-ltb (length file) (256 + 8192 * n) e)
 
@@ -161,36 +154,40 @@ pub record Counted (file : List ℕ) (n : ℕ) : Type 0 where
   pub few : n ≤ 120
   pub whole : 256 + 8192 * n ≤ length file
 
--- the tests that end in a count, taken apart
-counted_by : (s z f t : Bool) (m n : ℕ)
-    → unless (refusal (wrong_image when not s ∷ wrong_entries when z ∷ wrong_entries when f ∷ wrong_entries when t ∷ [])) Refused (Count m) ≡ Count n
-    → (t ≡ false) × (m ≡ n)
-counted_by false z f t m n e = let q : ◌≡◌ {A = ℕ} 0 1 = cc in let w : ⊥ = omega arith in absurd w
-counted_by true true f t m n e = let q : ◌≡◌ {A = ℕ} 0 1 = cc in let w : ⊥ = omega arith in absurd w
-counted_by true false true t m n e = let q : ◌≡◌ {A = ℕ} 0 1 = cc in let w : ⊥ = omega arith in absurd w
-counted_by true false false true m n e = let q : ◌≡◌ {A = ℕ} 0 1 = cc in let w : ⊥ = omega arith in absurd w
-counted_by true false false false m n e = (refl, cc)
+-- a file that is not refused is as long as its windows
+whole_by : (s z f t : Bool)
+    → refusal (wrong_image when not s ∷ wrong_entries when z ∷ wrong_entries when f ∷ wrong_entries when t ∷ []) ≡ 0 → t ≡ false
+whole_by s z f false e = refl
+whole_by false z f true e = absurd (omega arith)
+whole_by true true f true e = absurd (omega arith)
+whole_by true false true true e = absurd (omega arith)
+whole_by true false false true e = absurd (omega arith)
 
-pub counted : (file : List ℕ) (n : ℕ) → catalogue_of file ≡ Count n → Counted file n
+pub counted : (file : List ℕ) (n : ℕ) → catalogue_of file ≡ Ok n → Counted file n
 unfolding catalogue_of catalogue_refusal
 counted file n e =
-    let w =
-    counted_by (is_nib file) (eqb (pairs file) 0) (any_faulty file (pairs file)) (ltb (length file) (window_start (pairs file))) (pairs file)
-    n e in
+    let none : catalogue_refusal file ≡ 0 = answer-ok (catalogue_refusal file) (pairs file) n e in
+    let same : pairs file ≡ n = answer-value (catalogue_refusal file) (pairs file) n e in
     record {
-      is = sym w.1;
-      few = omega (arith, pairs_le file, w.1);
-      whole = omega (arith, le_of (length file) (window_start (pairs file)) w.0, w.1);
+      is = sym same;
+      few = omega (arith, pairs_le file, same);
+      whole =
+          omega (
+            arith,
+            le_of (length file) (window_start (pairs file))
+                (whole_by (is_nib file) (eqb (pairs file) 0) (any_faulty file (pairs file)) (ltb (length file) (window_start (pairs file))) none),
+            same,
+          );
     }
 
-found_by : (b : Bool) (j n k : ℕ) (e : Entry) → (e ≡ At k → k < n) → j ≡ n → pick b (At j) e ≡ At k → k < suc n
-found_by true j n k e f h q = let z : j ≡ k = cc in omega arith
-found_by false j n k e f h q = let z : k < n = f q in omega arith
+found_by : (b : Bool) (n k : ℕ) (e : Option ℕ) → (e ≡ Some k → k < n) → pick b (Some n) e ≡ Some k → k < suc n
+found_by true n k e f q = let z : n ≡ k = cc in omega arith
+found_by false n k e f q = let z : k < n = f q in omega arith
 
-pub place_in : (file : List ℕ) (c n k : ℕ) → entry_with file c n ≡ At k → k < n
+pub place_in : (file : List ℕ) (c n k : ℕ) → entry_with file c n ≡ Some k → k < n
 unfolding entry_with
-place_in file c zero k e = let q : ◌≡◌ {A = ℕ} 0 1 = cc in let w : ⊥ = omega arith in absurd w
-place_in file c (suc n) k e = found_by (eqb (code_at file n) c) n n k (entry_with file c n) (place_in file c n k) refl e
+place_in file c zero k e = absurd cc
+place_in file c (suc n) k e = found_by (eqb (code_at file n) c) n k (entry_with file c n) (place_in file c n k) e
 
 -- ---- what belongs to a pair
 

@@ -1,14 +1,13 @@
 -- The catalogue of a NIB file: from byte 16 on pairs of a code, which is a slot plus 2, and a zone; a code 0 ends them.
 -- The windows follow at byte 256, in the order of the pairs.
 use Rattle.std.specs.Prelude.{ℕ, zero, suc, ◌+◌, ◌*◌, ◌%◌, Bool, false, not, ◌||◌, ◌&&◌, List, [], ◌∷◌, eqb, ltb, leb, length, get_or, take, drop}
+use Rattle.std.specs.Prelude.{Option, Some, None, Result}
 use Rattle.base.specs.Choice.{pick}
 use Rattle.base.specs.Bytes.{same_bytes}
-use Rattle.base.specs.Refusals.{wrong_image, wrong_entries, ◌when◌, refusal, unless}
+use Rattle.base.specs.Refusals.{wrong_image, wrong_entries, ◌when◌, refusal}
+use Rattle.base.specs.Answers.{answer}
+use Rattle.base.specs.declared.Refusal.{Refusal}
 use Rattle.base.specs.Words.{ascii}
-use Rattle.nib_catalogue.specs.declared.Pairs.{Pairs}
-use Rattle.nib_catalogue.specs.declared.Pairs.TheVariants.{Count, Refused}
-use Rattle.nib_catalogue.specs.declared.Entry.{Entry}
-use Rattle.nib_catalogue.specs.declared.Entry.TheVariants.{Absent, At}
 
 abbrev pub signature : List ℕ
 signature = ascii "MNIB-1541-RAW"
@@ -62,10 +61,10 @@ catalogue_refusal file =
     ∷ [])
 
 -- the number of pairs of a file, or its refusal
-unfoldable pub catalogue_of : List ℕ → Pairs
-catalogue_of file = unless (catalogue_refusal file) Refused (Count (pairs file))
+unfoldable pub catalogue_of : List ℕ → Result ℕ Refusal
+catalogue_of file = answer (catalogue_refusal file) (pairs file)
 
 -- which of the first n pairs has a code
-unfoldable pub entry_with : List ℕ → ℕ → ℕ → Entry
-entry_with file code zero = Absent
-entry_with file code (suc n) = pick (eqb (code_at file n) code) (At n) (entry_with file code n)
+unfoldable pub entry_with : List ℕ → ℕ → ℕ → Option ℕ
+entry_with file code zero = None
+entry_with file code (suc n) = pick (eqb (code_at file n) code) (Some n) (entry_with file code n)

@@ -1,30 +1,27 @@
 // The catalogue of a NIB file: pairs of a code, which is a slot plus 2, and a zone.
+#![tactic(auto)]
+
 ghost use Rattle.std.specs.Prelude.{◌≡◌, ◌+◌, ◌*◌, ◌<◌, ◌≤◌, length};
-ghost use Rattle.nib_catalogue.specs.Catalogue.{is_nib, pairs, among, any_faulty, catalogue_of, entry_with, zone_at, window_at, window_start};
+ghost use Rattle.nib_catalogue.specs.Catalogue.{
+  is_nib,
+  pairs,
+  among,
+  faulty,
+  any_faulty,
+  catalogue_of,
+  entry_with,
+  zone_at,
+  window_at,
+  window_start,
+};
 
-// The number of pairs in a file's catalogue, or the refusal's number.
-#[derive(Drop)]
-pub enum Pairs {
-    Count(usize),
-    Refused(u8),
-}
-
-// Which pair of the catalogue is a slot's, or the refusal's number.
-#[derive(Drop)]
-pub enum Entry {
-    At(usize),
-    Absent,
-    Refused(u8),
-}
+use base::Refusal;
 
 // Is this a NIB file, by its length and signature?
 pub fn is_nib(image: &[u8]) -> bool
     ensures { result ≡ is_nib image.now }
 {
-    if image.len() < 256 {
-        return false;
-    }
-    base::same_bytes(&image[0..13], b"MNIB-1541-RAW")
+    256 <= image.len() && image.starts_with(b"MNIB-1541-RAW")
 }
 
 // The number of pairs.
@@ -32,14 +29,13 @@ fn count_pairs(image: &[u8]) -> usize
     requires { 256 ≤ length image.now }
     ensures { (result ≡ pairs image.now) × (result ≤ 120) }
 {
-    let mut k: usize = 0;
-    while k < 120 {
+    // A loop, since the pairs are defined from the first one on, and no lemma ties `position` to that.
+    for k in 0..120 {
         if image[16 + 2 * k] == 0 {
             return k;
         }
-        k += 1;
     }
-    k
+    120
 }
 
 // Is a code among those of the first n pairs?
@@ -47,14 +43,16 @@ fn is_among(image: &[u8], code: u8, n: usize) -> bool
     requires { (n ≤ 120) × (256 ≤ length image.now) }
     ensures { result ≡ among image.now code n }
 {
-    let mut k = n;
-    while 0 < k {
-        k -= 1;
-        if image[16 + 2 * k] == code {
-            return true;
-        }
-    }
-    false
+    (0..n).any(|k| image[16 + 2 * k] == code)
+}
+
+// Is pair k faulty?
+fn is_faulty(image: &[u8], k: usize) -> bool
+    requires { (k < 120) × (256 ≤ length image.now) }
+    ensures { result ≡ faulty image.now k }
+{
+    let code = image[16 + 2 * k];
+    code < 2 || 86 <= code || is_among(image, code, k)
 }
 
 // Is one of the first n pairs faulty?
@@ -62,56 +60,41 @@ fn any_faulty(image: &[u8], n: usize) -> bool
     requires { (n ≤ 120) × (256 ≤ length image.now) }
     ensures { result ≡ any_faulty image.now n }
 {
-    let mut k = n;
-    while 0 < k {
-        k -= 1;
-        let code = image[16 + 2 * k];
-        if code < 2 {
-            return true;
-        }
-        if 86 <= code {
-            return true;
-        }
-        if is_among(image, code, k) {
-            return true;
-        }
-    }
-    false
+    (0..n).any(|k| is_faulty(image, k))
 }
 
-// The number of pairs of a file, or the refusal's number.
-pub fn read_catalogue(image: &[u8]) -> Pairs
+// The number of pairs of a file.
+pub fn read_catalogue(image: &[u8]) -> Result<usize, Refusal>
     ensures { result ≡ catalogue_of image.now }
 {
     if !is_nib(image) {
-        return Pairs::Refused(base::WRONG_IMAGE);
+        return Err(Refusal::WrongImage);
     }
     let n = count_pairs(image);
     if n == 0 {
-        return Pairs::Refused(base::WRONG_ENTRIES);
+        return Err(Refusal::WrongEntries);
     }
     if any_faulty(image, n) {
-        return Pairs::Refused(base::WRONG_ENTRIES);
+        return Err(Refusal::WrongEntries);
     }
     if image.len() < 256 + 8192 * n {
-        return Pairs::Refused(base::WRONG_ENTRIES);
+        return Err(Refusal::WrongEntries);
     }
-    Pairs::Count(n)
+    Ok(n)
 }
 
 // Which of the first n pairs has a code.
-pub fn find_code(image: &[u8], code: u8, n: usize) -> Entry
+pub fn find_code(image: &[u8], code: u8, n: usize) -> Option<usize>
     requires { (n ≤ 120) × (256 ≤ length image.now) }
     ensures { result ≡ entry_with image.now code n }
 {
-    let mut k = n;
-    while 0 < k {
-        k -= 1;
+    // A loop: std has no lemma on a range that is turned round and searched.
+    for k in (0..n).rev() {
         if image[16 + 2 * k] == code {
-            return Entry::At(k);
+            return Some(k);
         }
     }
-    Entry::Absent
+    None
 }
 
 // The zone of pair k.

@@ -18,7 +18,7 @@ use borrow.Author.Tests.{eq-eqb, ne_eqb, lt-ltb, eqb-true, ltb-true}
 use Rattle.base.specs.Choice.{pick}
 use Rattle.base.proofs.Tests.{pick_case}
 use Rattle.base.proofs.Products.{le_le, lt_le, le_lt}
-use Rattle.nib_orbit.specs.Orbit.{lowest, highest, middle, observations, agreements, estimate, apart}
+use Rattle.nib_orbit.specs.Orbit.{lowest, highest, middle, observations, estimate, apart}
 use Rattle.nib_orbit.specs.Orbit.{cross_product, better, best_of, best, chosen_estimate, chosen, recovered}
 use Rattle.nib_orbit.specs.declared.Estimate.{Estimate}
 use Rattle.nib_orbit.proofs.Spans.{limits}

@@ -12,6 +12,7 @@ use borrow.Author.Tests.{eq-eqb, ne_eqb, lt-ltb, le-ltb}
 use Rattle.nib_orbit.specs.Orbit.{lowest, highest, middle, agreeing, agreements, estimate, apart}
 use Rattle.nib_orbit.specs.Orbit.{cross_product, better, best_of, best, chosen_estimate}
 use Rattle.nib_orbit.specs.declared.Estimate.{Estimate}
+use Rattle.nib_orbit.specs.declared.Zone.{Zone}
 
 -- ---- counting agreements
 
@@ -54,22 +55,22 @@ module _ (m : ℕ) (a b : Estimate) where
 
 -- ---- the search for the best: its start, and a turn that takes the next span or keeps what it has
 
-pub best-start : (w : List ℕ) (m low n : ℕ) → n ≡ low → (t : Estimate) → t ≡ estimate w low → t ≡ best_of w m low (n - low)
+pub best-start : (w : List ℕ) (m low : ℕ) (t : Estimate) → t ≡ estimate w low → t ≡ best_of w m low (low + 1 - (low + 1))
 unfolding best_of
-best-start w m low n e t f = let z : n - low ≡ 0 = omega arith in rw (z, f)
+best-start w m low t f = let z : low + 1 - (low + 1) ≡ 0 = omega arith in rw (z, f)
 
-module _ (w : List ℕ) (m low n : ℕ) (s t : Estimate) (h : low ≤ n) (e : t ≡ best_of w m low (n - low)) (f : s ≡ estimate w (n + 1)) where
-  more : n + 1 - low ≡ suc (n - low)
+module _ (w : List ℕ) (m low span : ℕ) (s t : Estimate) (h : low + 1 ≤ span) (e : t ≡ best_of w m low (span - (low + 1))) (f : s ≡ estimate w span) where
+  more : span + 1 - (low + 1) ≡ suc (span - (low + 1))
   more = omega arith
 
-  there : low + suc (n - low) ≡ n + 1
+  there : low + suc (span - (low + 1)) ≡ span
   there = omega arith
 
-  pub best_changes : better m s t ≡ true → s ≡ best_of w m low (n + 1 - low)
+  pub best_changes : better m s t ≡ true → s ≡ best_of w m low (span + 1 - (low + 1))
   unfolding best_of
   best_changes b = rw (more, ← e, there, ← f, b)
 
-  pub best_stays : better m s t ≡ false → t ≡ best_of w m low (n + 1 - low)
+  pub best_stays : better m s t ≡ false → t ≡ best_of w m low (span + 1 - (low + 1))
   unfolding best_of
   best_stays b = rw (more, ← e, there, ← f, b)
 
@@ -94,6 +95,34 @@ limits_at (suc (suc (suc (suc z)))) h = let x : ⊥ = omega arith in absurd x
 pub limits : (zone : ℕ) → Limits (lowest zone) (highest zone) (middle zone)
 unfolding lowest highest middle
 limits zone = limits_at (zone % 4) (mod-lt zone (lit< tt))
+
+-- the table that the code has of them
+abbrev zones : List Zone
+zones =
+    record { lowest = 6183; highest = 6311; middle = 6247 }
+    ∷ record { lowest = 6598; highest = 6726; middle = 6662 }
+    ∷ record { lowest = 7073; highest = 7201; middle = 7137 }
+    ∷ record { lowest = 7616; highest = 7824; middle = 7720 } ∷ []
+
+abbrev no_zone : Zone
+no_zone = record { lowest = 0; highest = 0; middle = 0 }
+
+zone_at : (z : ℕ) → z < 4
+    → ((get_or zones z no_zone).lowest ≡ get_or (6183 ∷ 6598 ∷ 7073 ∷ 7616 ∷ []) z 0)
+    × ((get_or zones z no_zone).highest ≡ get_or (6311 ∷ 6726 ∷ 7201 ∷ 7824 ∷ []) z 0)
+    × ((get_or zones z no_zone).middle ≡ get_or (6247 ∷ 6662 ∷ 7137 ∷ 7720 ∷ []) z 0)
+zone_at zero h = (refl, refl, refl)
+zone_at (suc zero) h = (refl, refl, refl)
+zone_at (suc (suc zero)) h = (refl, refl, refl)
+zone_at (suc (suc (suc zero))) h = (refl, refl, refl)
+zone_at (suc (suc (suc (suc z)))) h = let x : ⊥ = omega arith in absurd x
+
+pub zone_is : (zone k : ℕ) → k ≡ zone % 4
+    → ((get_or zones k no_zone).lowest ≡ lowest zone)
+    × ((get_or zones k no_zone).highest ≡ highest zone)
+    × ((get_or zones k no_zone).middle ≡ middle zone)
+unfolding lowest highest middle
+zone_is zone k e = rw e (zone_at (zone % 4) (mod-lt zone (lit< tt)))
 
 -- ---- the choice
 

@@ -1,42 +1,70 @@
 // The orbit of a capture: the first bytes of a window, as many as one turn of the disk took.
+#![tactic(auto)]
+
 ghost use Rattle.std.specs.Prelude.{◌≡◌, ◌-◌, ◌≤◌, length};
 ghost use Rattle.nib_orbit.specs.Orbit.{
   agreements as agreements_of,
   estimate as estimate_of,
-  apart as apart_of,
   better,
   best_of,
   chosen_estimate,
   recovered,
+  lowest,
+  highest,
+  middle,
 };
 
 // A span, its agreements and its observations.
-#[derive(Clone, Copy)]
+#[derive(Clone, Copy, Debug, PartialEq, Eq)]
 pub struct Estimate {
     pub span: usize,
     pub agreements: usize,
     pub observations: usize,
 }
 
-const LOWEST: [usize; 4] = [6183, 6598, 7073, 7616];
+// The shortest and the longest span of a zone, and the one in the middle.
+#[derive(Clone, Copy)]
+struct Zone {
+    lowest: usize,
+    highest: usize,
+    middle: usize,
+}
 
-const HIGHEST: [usize; 4] = [6311, 6726, 7201, 7824];
-
-const MIDDLE: [usize; 4] = [6247, 6662, 7137, 7720];
+const ZONES: [Zone; 4] = [
+    Zone {
+        lowest: 6183,
+        highest: 6311,
+        middle: 6247,
+    },
+    Zone {
+        lowest: 6598,
+        highest: 6726,
+        middle: 6662,
+    },
+    Zone {
+        lowest: 7073,
+        highest: 7201,
+        middle: 7137,
+    },
+    Zone {
+        lowest: 7616,
+        highest: 7824,
+        middle: 7720,
+    },
+];
 
 // The pairs of equal bytes of a window that lie a span apart.
 fn agreements(window: &[u8], span: usize) -> usize
     requires { span ≤ length window.now }
     ensures { (result ≡ agreements_of window.now span) × (result ≤ length window.now - span) }
 {
+    // An index, and no chain of iterators: nearly all of the time goes into this loop, and a chain has not been timed.
     let n = window.len() - span;
     let mut count: usize = 0;
-    let mut i: usize = 0;
-    while i < n {
+    for i in 0..n {
         if window[i] == window[i + span] {
             count += 1;
         }
-        i += 1;
     }
     count
 }
@@ -54,28 +82,25 @@ fn measure(window: &[u8], span: usize) -> Estimate
     }
 }
 
-fn apart(a: usize, b: usize) -> usize
-    ensures { result ≡ apart_of a b }
-{
-    if a < b { b - a } else { a - b }
-}
-
-// Is an estimate better than another?
-fn is_better(middle: usize, a: Estimate, b: Estimate) -> bool
-    requires { (a.agreements ≤ 8192) × (a.observations ≤ 8192) × (b.agreements ≤ 8192) × (b.observations ≤ 8192) }
-    ensures { result ≡ better middle a b }
-{
-    let mine = a.agreements * b.observations;
-    let its = b.agreements * a.observations;
-    if mine == its {
-        let d = apart(a.span, middle);
-        let e = apart(b.span, middle);
-        if d == e {
-            return a.span < b.span;
+impl Estimate {
+    // Is it better than another?
+    fn is_better(self, other: Estimate, middle: usize) -> bool
+        requires mine { (self.agreements ≤ 8192) × (self.observations ≤ 8192) }
+        requires its { (other.agreements ≤ 8192) × (other.observations ≤ 8192) }
+        ensures { result ≡ better middle self other }
+    {
+        let mine = self.agreements * other.observations;
+        let its = other.agreements * self.observations;
+        if mine == its {
+            let d = self.span.abs_diff(middle);
+            let e = other.span.abs_diff(middle);
+            if d == e {
+                return self.span < other.span;
+            }
+            return d < e;
         }
-        return d < e;
+        its < mine
     }
-    its < mine
 }
 
 // The best of the spans from low to high.
@@ -84,15 +109,22 @@ fn best_span(window: &[u8], middle: usize, low: usize, high: usize) -> Estimate
     ensures { (result ≡ best_of window.now middle low (high - low)) × (result.agreements ≤ 8192) }
 {
     let mut best = measure(window, low);
-    let mut span = low;
-    while span < high {
-        span += 1;
+    for span in low + 1..=high {
         let next = measure(window, span);
-        if is_better(middle, next, best) {
+        if next.is_better(best, middle) {
             best = next;
         }
     }
     best
+}
+
+// The limits of a zone; zones are counted modulo 4.
+fn limits_of(zone: u8) -> Zone
+    ensures lowest { result.lowest ≡ lowest zone }
+    ensures highest { result.highest ≡ highest zone }
+    ensures middle { result.middle ≡ middle zone }
+{
+    ZONES[usize::from(zone % 4)]
 }
 
 // The span that is taken for one turn of the disk, and what speaks for it.
@@ -100,13 +132,10 @@ pub fn estimate_orbit(window: &[u8], zone: u8) -> Estimate
     requires { length window.now ≡ 8192 }
     ensures { (result ≡ chosen_estimate window.now zone) × (result.span ≤ 8192) }
 {
-    let z = (zone % 4) as usize;
-    let low = LOWEST[z];
-    let high = HIGHEST[z];
-    let middle = MIDDLE[z];
-    let best = best_span(window, middle, low, high);
+    let limits = limits_of(zone);
+    let best = best_span(window, limits.middle, limits.lowest, limits.highest);
     if best.agreements * 4 < best.observations {
-        return measure(window, middle);
+        return measure(window, limits.middle);
     }
     best
 }

@@ -11,11 +11,9 @@ use Rattle.nib_orbit.specs.Orbit.{chosen, recovered}
 use Rattle.nib_catalogue.specs.Catalogue.{is_nib, code_at, zone_at, window_start, window_at, pairs_from, pairs}
 use Rattle.nib_catalogue.specs.Catalogue.{among, any_faulty, catalogue_refusal, catalogue_of, entry_with}
 use Rattle.nib_slots.specs.Slots.{entry_of, ring_by, ring_of, zone_by, slot_zone, slot_by, slot_answer}
-use Rattle.nib_catalogue.specs.declared.Pairs.TheVariants.{Count}
-use Rattle.nib_catalogue.specs.declared.Entry.{Entry}
-use Rattle.nib_catalogue.specs.declared.Entry.TheVariants.{At, Absent, Refused}
-use Rattle.nib_slots.specs.declared.Zone.TheVariants.{Is}
-use Rattle.nib_slots.specs.declared.NibSlot.TheVariants.{Ring}
+use Rattle.std.specs.Prelude.{Option, Some, None, Result, Ok, Err}
+use Rattle.base.specs.declared.Refusal.{Refusal}
+use Rattle.nib_slots.specs.declared.SlotRing.{SlotRing}
 use Rattle.nib_catalogue.proofs.Cataloguing.{counted}
 use Rattle.nib_slots.proofs.Slotting.{Held, held}
 
@@ -73,12 +71,12 @@ module _ (file t : List ℕ) (h : 256 ≤ length file) where
     zone_same : zone_at (file ++ t) k ≡ zone_at file k
     zone_same = ap (λ (z : ℕ). z % 4) (byte_same (17 + 2 * k) (omega arith))
 
-module _ (file t : List ℕ) (n : ℕ) (q : catalogue_of file ≡ Count n) where
+module _ (file t : List ℕ) (n : ℕ) (q : catalogue_of file ≡ Ok n) where
   long : 256 ≤ length file
   long = let c = counted file n q in omega arith
 
   -- the same catalogue, and the same pair of every slot
-  pub longer_counted : catalogue_of (file ++ t) ≡ Count n
+  pub longer_counted : catalogue_of (file ++ t) ≡ Ok n
   longer_counted = let c = counted file n q in catalogue_same file t long (omega arith) (omega arith) ∙ q
 
   module _ (slot : ℕ) where
@@ -86,22 +84,22 @@ module _ (file t : List ℕ) (n : ℕ) (q : catalogue_of file ≡ Count n) where
     unfolding entry_of
     entry_same = let c = counted file n q in rw (longer_counted, q, place_same file t long (slot + 2) n (omega arith))
 
-    ring_by_lem : (e : Entry) → entry_of file slot ≡ e → ring_by (file ++ t) e ≡ ring_by file e
-    ring_by_lem Absent e = refl
-    ring_by_lem (Refused r) e = refl
-    ring_by_lem (At k) e = let i = held file slot k e in ap₂ recovered (window_same file t long k i) (zone_same file t long k i)
+    ring_by_lem : (e : Result (Option ℕ) Refusal) → entry_of file slot ≡ e → ring_by (file ++ t) e ≡ ring_by file e
+    ring_by_lem (Ok None) e = refl
+    ring_by_lem (Err why) e = refl
+    ring_by_lem (Ok (Some k)) e = let i = held file slot k e in ap₂ recovered (window_same file t long k i) (zone_same file t long k i)
 
-    zone_by_lem : (e : Entry) → entry_of file slot ≡ e → zone_by (file ++ t) e ≡ zone_by file e
-    zone_by_lem Absent e = refl
-    zone_by_lem (Refused r) e = refl
-    zone_by_lem (At k) e = ap Is (zone_same file t long k (held file slot k e))
+    zone_by_lem : (e : Result (Option ℕ) Refusal) → entry_of file slot ≡ e → zone_by (file ++ t) e ≡ zone_by file e
+    zone_by_lem (Ok None) e = refl
+    zone_by_lem (Err why) e = refl
+    zone_by_lem (Ok (Some k)) e = ap Ok (zone_same file t long k (held file slot k e))
 
-    slot_by_lem : (e : Entry) → entry_of file slot ≡ e → slot_by (file ++ t) e ≡ slot_by file e
-    slot_by_lem Absent e = refl
-    slot_by_lem (Refused r) e = refl
-    slot_by_lem (At k) e =
+    slot_by_lem : (e : Result (Option ℕ) Refusal) → entry_of file slot ≡ e → slot_by (file ++ t) e ≡ slot_by file e
+    slot_by_lem (Ok None) e = refl
+    slot_by_lem (Err why) e = refl
+    slot_by_lem (Ok (Some k)) e =
         let i = held file slot k e in
-        ap₂ (λ (w : List ℕ) (z : ℕ). Ring (window_start k) (chosen w z) z) (window_same file t long k i) (zone_same file t long k i)
+        ap₂ {C = Result (Option SlotRing) Refusal} (λ (w : List ℕ) (z : ℕ). Ok (Some (record { start = window_start k; length = chosen w z; zone = z }))) (window_same file t long k i) (zone_same file t long k i)
 
     pub longer_ring : ring_of (file ++ t) slot ≡ ring_of file slot
     unfolding ring_of

@@ -1,49 +1,38 @@
 // NIB files: the ring and the zone of a slot. The crate `nib_catalogue` reads the list of the captures.
+#![tactic(auto)]
+
 ghost use Rattle.std.specs.Prelude.{◌≡◌};
 ghost use Rattle.nib_slots.specs.Slots.{entry_of, ring_of, slot_zone, slot_answer};
 
-use nib_catalogue::{Entry, Pairs};
+use base::Refusal;
 
-// The zone of a slot, or the refusal's number.
-#[derive(Drop)]
-pub enum Zone {
-    Is(u8),
-    Refused(u8),
+// A slot's ring: where it starts in the image, its length and its zone.
+#[derive(Clone, Copy, Debug, PartialEq, Eq)]
+pub struct SlotRing {
+    pub start: usize,
+    pub length: usize,
+    pub zone: u8,
 }
 
-// A slot's ring: where it starts in the image, its length and its zone; none; or the refusal's number.
-#[derive(Drop)]
-pub enum NibSlot {
-    Ring(usize, usize, u8),
-    Empty,
-    Refused(u8),
-}
-
-// The pair of a slot.
-fn entry_of(image: &[u8], slot: usize) -> Entry
+// The pair of a slot, if the catalogue has one.
+fn entry_of(image: &[u8], slot: usize) -> Result<Option<usize>, Refusal>
     ensures { result ≡ entry_of image.now slot }
 {
-    let pairs = nib_catalogue::read_catalogue(image);
-    match pairs {
-        Pairs::Refused(number) => Entry::Refused(number),
-        Pairs::Count(n) => {
-            if 83 < slot {
-                return Entry::Refused(base::WRONG_ENTRIES);
-            }
-            nib_catalogue::find_code(image, (slot + 2) as u8, n)
-        }
+    let n = nib_catalogue::read_catalogue(image)?;
+    if 83 < slot {
+        return Err(Refusal::WrongEntries);
     }
+    Ok(nib_catalogue::find_code(image, (slot + 2) as u8, n))
 }
 
-// The zone of a slot, or the refusal's number.
-pub fn nib_zone(image: &[u8], slot: usize) -> Zone
+// The zone of a slot; 0 where it is absent.
+pub fn nib_zone(image: &[u8], slot: usize) -> Result<u8, Refusal>
     ensures { result ≡ slot_zone image.now slot }
 {
-    let entry = entry_of(image, slot);
+    let entry = entry_of(image, slot)?;
     match entry {
-        Entry::At(k) => Zone::Is(nib_catalogue::zone_at(image, k)),
-        Entry::Absent => Zone::Is(0),
-        Entry::Refused(number) => Zone::Refused(number),
+        Some(k) => Ok(nib_catalogue::zone_at(image, k)),
+        None => Ok(0),
     }
 }
 
@@ -53,27 +42,30 @@ pub fn nib_ring(image: &[u8], slot: usize) -> &[u8]
 {
     let entry = entry_of(image, slot);
     match entry {
-        Entry::At(k) => {
+        Ok(Some(k)) => {
             let zone = nib_catalogue::zone_at(image, k);
             nib_orbit::recover_orbit(nib_catalogue::window_at(image, k), zone)
         }
-        Entry::Absent => &image[0..0],
-        Entry::Refused(_) => &image[0..0],
+        Ok(None) => &image[0..0],
+        Err(_) => &image[0..0],
     }
 }
 
-// Where the ring of a slot starts in the image, its length and its zone.
-pub fn nib_slot(image: &[u8], slot: usize) -> NibSlot
+// The ring of a slot, if it has one: where it starts in the image, its length and its zone.
+pub fn nib_slot(image: &[u8], slot: usize) -> Result<Option<SlotRing>, Refusal>
     ensures { result ≡ slot_answer image.now slot }
 {
-    let entry = entry_of(image, slot);
+    let entry = entry_of(image, slot)?;
     match entry {
-        Entry::At(k) => {
+        Some(k) => {
             let zone = nib_catalogue::zone_at(image, k);
             let chosen = nib_orbit::estimate_orbit(nib_catalogue::window_at(image, k), zone);
-            NibSlot::Ring(256 + 8192 * k, chosen.span, zone)
+            Ok(Some(SlotRing {
+                start: 256 + 8192 * k,
+                length: chosen.span,
+                zone,
+            }))
         }
-        Entry::Absent => NibSlot::Empty,
-        Entry::Refused(number) => NibSlot::Refused(number),
+        None => Ok(None),
     }
 }

@@ -1,24 +1,30 @@
 -- Laws of laying a file out: sums and counts over the slots, and what stores in a row leave.
 use Prim.Native.Nat.{ℕ, zero, suc, ◌+◌, ◌-◌, ◌*◌, ◌%◌, ◌≤◌, ◌<◌}
 use mathlib.Core.Path.{◌≡◌, refl, sym, ap, ◌∙◌}
-use mathlib.Core.Bool.{Bool, true, false}
+use mathlib.Core.Bool.{Bool, true, false, not, cond}
+use Rattle.std.specs.List.{filter, range_with_len}
 use mathlib.Core.List.{List, [], ◌∷◌, ◌++◌, append_assoc}
 use native.Mathlib.Numerals.{add-one}
 use native.Mathlib.Omega.{arith}
+use native.Mathlib.Nat.{sub-zero}
+use Rattle.std.proofs.lemmas.Nat.{mod-mul-add}
+use Rattle.std.proofs.lemmas.List.{get_or-take, length-take-le}
+use Rattle.std.proofs.Math.Seq.{take-length}
 use native.Mathlib.Decide.{dec_le, ℕ_discrete}
 use lib.Dec.{eqb}
 use lib.ListN.{length, get_or, set, take, drop, replicate, length-append, length-replicate}
 use lib.Seq.{sets, sets-eq}
 use borrow.Author.Tests.{eq-eqb, ne_eqb, lt-ltb, le-ltb}
 use Rattle.base.specs.Choice.{pick}
-use Rattle.base.specs.Lists.{joined}
-use Rattle.base.specs.Refusals.{wrong_sum, ring_too_long, no_ring, no_room}
-use Rattle.base.proofs.Lists.{length-tab, length-joined, joined-next}
+use Rattle.base.specs.Answers.{named}
+use Rattle.base.specs.Lists.{tab, joined}
+use Rattle.base.proofs.Lists.{length-tab, is_tab, tab_split, length-joined, joined-next}
 use Rattle.base.proofs.Pieces.{put_turn}
 use Rattle.nib_write.specs.Encoding.{sum_to, any_long, rings_to, pair_of, slot_ring, repeated, slot_window}
 use Rattle.nib_write.specs.Encoding.{file_head, file_of, size_of, filled, encoding_refusal, encoded_of, out_after}
-use Rattle.nib_write.specs.declared.Encoded.{Encoded}
-use Rattle.nib_write.specs.declared.Encoded.TheVariants.{Written, Refused}
+use Rattle.base.specs.declared.Refusal.{Refusal}
+use Rattle.base.specs.declared.Refusal.TheVariants.{WrongSum, RingTooLong, NoRing, NoRoom}
+use Rattle.std.specs.Prelude.{Result, Ok, Err}
 
 -- ---- the slots
 
@@ -73,22 +79,38 @@ module _ (lengths : List ℕ) where
         | no g ↦ let e : k ≡ suc n = omega arith in rw e (omega arith)
       ]
 
-  -- is a length above 65,535, counting down
-  pub long-none : (k : ℕ) → k ≡ 0 → false ≡ any_long lengths k
-  unfolding any_long
-  long-none k e = rw e
+-- ---- counting them in order
 
-  module _ (k : ℕ) (h : 0 < k) where
-    down : k ≡ suc (k - 1)
-    down = omega arith
+cond_more : (b : Bool) (x : ℕ) (xs ys : List ℕ) (d : ℕ) → length xs ≡ length ys + d
+    → length (cond b (x ∷ xs) xs) ≡ length (cond b (x ∷ ys) ys) + d
+cond_more true x xs ys d e = omega arith
+cond_more false x xs ys d e = e
 
-    pub long_here : 65535 < get_or lengths (k - 1) 0 → any_long lengths k ≡ true
-    unfolding any_long
-    long_here e = ap (any_long lengths) down ∙ rw (lt-ltb 65535 (get_or lengths (k - 1) 0) e)
+cond_one : (b : Bool) (x : ℕ) → length {A = ℕ} (cond b (x ∷ []) []) ≡ cond b 1 0
+cond_one true x = refl
+cond_one false x = refl
 
-    pub long-on : get_or lengths (k - 1) 0 ≤ 65535 → any_long lengths k ≡ any_long lengths (k - 1)
-    unfolding any_long
-    long-on e = ap (any_long lengths) down ∙ rw (le-ltb 65535 (get_or lengths (k - 1) 0) e)
+filter_last : (test : ℕ → Bool) (a n : ℕ)
+    → length (filter test (range_with_len a (suc n))) ≡ length (filter test (range_with_len a n)) + cond (test (a + n)) 1 0
+filter_last test a zero = let e : a + 0 ≡ a = omega arith in rw e (omega (arith, cond_one (test a) a))
+filter_last test a (suc n) =
+    let e : a + 1 + n ≡ a + suc n = omega arith in
+    cond_more (test a) a (filter test (range_with_len (a + 1) (suc n))) (filter test (range_with_len (a + 1) n)) (cond (test (a + suc n)) 1 0)
+    (rw e at (filter_last test (a + 1) n))
+
+abbrev pub has_ring : List ℕ → ℕ → Bool
+has_ring lengths k = not (eqb (get_or lengths k 0) 0)
+
+count_more : (b : Bool) (n : ℕ) → n + cond (not b) 1 0 ≡ pick b n (suc n)
+count_more true n = omega arith
+count_more false n = omega arith
+
+pub rings_counted : (lengths : List ℕ) (n : ℕ) → length (filter (has_ring lengths) (range_with_len 0 n)) ≡ rings_to lengths n
+unfolding rings_to
+rings_counted lengths zero = refl
+rings_counted lengths (suc n) =
+    let e : 0 + n ≡ n = omega arith in
+    filter_last (has_ring lengths) 0 n ∙ rw (e, rings_counted lengths n) (count_more (eqb (get_or lengths n 0) 0) (rings_to lengths n))
 
 -- ---- the pairs
 
@@ -115,6 +137,37 @@ module _ (lengths zones : List ℕ) where
 pub repeated-length : (ring : List ℕ) → length (repeated ring) ≡ 8192
 unfolding repeated
 repeated-length ring = length-tab 8192 (λ i. get_or ring (i % length ring) 0)
+
+-- byte i of a window
+abbrev pub repeats : List ℕ → ℕ → ℕ
+repeats ring i = get_or ring (i % length ring) 0
+
+-- k rings, and m bytes of the next
+repeated_on : (ring : List ℕ) (k m : ℕ) → m ≤ length ring
+    → tab (k * length ring + m) (repeats ring) ≡ tab (k * length ring) (repeats ring) ++ take m ring
+repeated_on ring k m h =
+    tab_split (k * length ring) m (repeats ring)
+    ∙ ap (λ (l : List ℕ). tab (k * length ring) (repeats ring) ++ l)
+    (sym (is_tab (take m ring) m (λ i. repeats ring (k * length ring + i)) (length-take-le m ring h)
+    (λ j l. let below : j < length ring = omega arith in rw (mod-mul-add k (length ring) j) (get_or-take m ring j 0 l))))
+
+module _ (ring out₀ out out' : List ℕ) (at k : ℕ) (e : out ≡ sets out₀ at (tab (k * length ring) (repeats ring))) where
+  pub ring_laid : out' ≡ sets out (at + k * length ring) ring → out' ≡ sets out₀ at (tab ((k + 1) * length ring) (repeats ring))
+  ring_laid f =
+      let next : (k + 1) * length ring ≡ k * length ring + length ring = omega arith in
+      let more : tab ((k + 1) * length ring) (repeats ring) ≡ tab (k * length ring) (repeats ring) ++ ring =
+      rw next (repeated_on ring k (length ring) (omega arith) ∙ ap (λ (l : List ℕ). tab (k * length ring) (repeats ring) ++ l) (take-length ring)) in
+      put_turn out₀ out out' (tab (k * length ring) (repeats ring)) ring at (at + k * length ring) (k * length ring) e
+      (length-tab (k * length ring) (repeats ring)) refl f
+      ∙ ap (sets out₀ at) (sym more)
+
+  pub window_done : (m : ℕ) → m ≤ length ring → k * length ring + m ≡ 8192
+      → out' ≡ sets out (at + k * length ring) (take (m - 0) ring) → out' ≡ sets out₀ at (repeated ring)
+  unfolding repeated
+  window_done m h w f =
+      put_turn out₀ out out' (tab (k * length ring) (repeats ring)) (take m ring) at (at + k * length ring) (k * length ring) e
+      (length-tab (k * length ring) (repeats ring)) refl (rw (sub-zero m) at f)
+      ∙ ap (sets out₀ at) (sym (repeated_on ring k m h) ∙ ap (λ (n : ℕ). tab n (repeats ring)) w)
 
 module _ (lengths rings : List ℕ) where
   pub window_none : (k : ℕ) → get_or lengths k 0 ≡ 0 → slot_window lengths rings k ≡ []
@@ -223,31 +276,31 @@ module _ (lengths zones rings : List ℕ) where
 -- ---- the refusals in their order
 
 module _ (lengths zones rings out : List ℕ) where
-  abbrev Answers : Encoded → List ℕ → Type 0
+  abbrev Answers : Result ℕ Refusal → List ℕ → Type 0
   Answers told after = (told ≡ encoded_of lengths rings out) × (after ≡ out_after lengths zones rings out)
 
-  refused_by_lem : (r : ℕ) → encoding_refusal lengths rings out ≡ suc r → Answers (Refused (suc r)) out
+  refused_by_lem : (r : ℕ) → encoding_refusal lengths rings out ≡ suc r → Answers (Err (named (suc r))) out
   unfolding encoded_of out_after
   refused_by_lem r e = (rw e, rw e)
 
-  pub enc_sum : eqb (sum_to lengths 84) (length rings) ≡ false → Answers (Refused wrong_sum) out
-  enc_sum e = refused_by_lem _ (unfold encoding_refusal in rw e)
+  pub enc_sum : eqb (sum_to lengths 84) (length rings) ≡ false → Answers (Err WrongSum) out
+  enc_sum e = refused_by_lem 9 (unfold encoding_refusal in rw e)
 
   module _ (s : eqb (sum_to lengths 84) (length rings) ≡ true) where
-    pub enc_long : any_long lengths 84 ≡ true → Answers (Refused ring_too_long) out
-    enc_long e = refused_by_lem _ (unfold encoding_refusal in rw (s, e))
+    pub enc_long : any_long lengths 84 ≡ true → Answers (Err RingTooLong) out
+    enc_long e = refused_by_lem 1 (unfold encoding_refusal in rw (s, e))
 
     module _ (l : any_long lengths 84 ≡ false) (n : ℕ) (q : n ≡ rings_to lengths 84) where
-      pub enc_none : n ≡ 0 → Answers (Refused no_ring) out
-      enc_none e = refused_by_lem _ (unfold encoding_refusal in rw (s, l, ← q, eq-eqb n 0 e))
+      pub enc_none : n ≡ 0 → Answers (Err NoRing) out
+      enc_none e = refused_by_lem 7 (unfold encoding_refusal in rw (s, l, ← q, eq-eqb n 0 e))
 
       module _ (z : n ≡ 0 → ⊥) where
-        pub enc_room : length out < 256 + 8192 * n → Answers (Refused no_room) out
+        pub enc_room : length out < 256 + 8192 * n → Answers (Err NoRoom) out
         enc_room h =
-            refused_by_lem _ (unfold encoding_refusal in rw (s, l, ← q, ne_eqb n 0 z, lt-ltb (length out) (256 + 8192 * n) h))
+            refused_by_lem 6 (unfold encoding_refusal in rw (s, l, ← q, ne_eqb n 0 z, lt-ltb (length out) (256 + 8192 * n) h))
 
         pub enc_done : 256 + 8192 * n ≤ length out → (out' : List ℕ) → out' ≡ filled lengths zones rings out
-            → Answers (Written (256 + 8192 * n)) out'
+            → Answers (Ok (256 + 8192 * n)) out'
         unfolding encoded_of out_after encoding_refusal
         enc_done h out' e =
             let b = le-ltb (length out) (256 + 8192 * n) h in

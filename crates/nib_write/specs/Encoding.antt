@@ -1,13 +1,14 @@
 -- A NIB file made of rings: lent are the length and the zone of each slot's ring, and the bytes of all rings joined.
 -- Length 0 is an absent slot; missing lengths and zones are 0, and those after the 84th are not looked at.
-use Rattle.std.specs.Prelude.{ℕ, zero, suc, ◌+◌, ◌-◌, ◌*◌, ◌%◌, Bool, false, not, ◌||◌, List, [], ◌∷◌, ◌++◌, eqb, ltb, length, get_or, take, drop, replicate}
+use Rattle.std.specs.Prelude.{ℕ, zero, suc, ◌+◌, ◌-◌, ◌*◌, ◌%◌, Bool, false, not, ◌||◌, List, [], ◌∷◌, ◌++◌}
+use Rattle.std.specs.Prelude.{eqb, ltb, length, get_or, take, drop, replicate, Result}
 use Rattle.base.specs.Choice.{pick}
 use Rattle.base.specs.Lists.{tab, joined}
 use Rattle.base.specs.Limits.{longest_ring}
 use Rattle.base.specs.Refusals.{wrong_sum, ring_too_long, no_ring, no_room, ◌when◌, refusal, unless}
+use Rattle.base.specs.Answers.{answer}
+use Rattle.base.specs.declared.Refusal.{Refusal}
 use Rattle.nib_catalogue.specs.Catalogue.{signature, window_start}
-use Rattle.nib_write.specs.declared.Encoded.{Encoded}
-use Rattle.nib_write.specs.declared.Encoded.TheVariants.{Written, Refused}
 
 -- of the first n slots: the sum of the lengths, whether one is longer than a ring may be, and the number of rings
 unfoldable pub sum_to : List ℕ → ℕ → ℕ
@@ -59,8 +60,8 @@ encoding_refusal lengths rings out =
     ∷ [])
 
 -- how many bytes are written, or the refusal
-unfoldable pub encoded_of : List ℕ → List ℕ → List ℕ → Encoded
-encoded_of lengths rings out = unless (encoding_refusal lengths rings out) Refused (Written (size_of lengths))
+unfoldable pub encoded_of : List ℕ → List ℕ → List ℕ → Result ℕ Refusal
+encoded_of lengths rings out = answer (encoding_refusal lengths rings out) (size_of lengths)
 
 -- what the output then holds: the file, and behind it what was lent; refused, all as lent
 abbrev pub filled : List ℕ → List ℕ → List ℕ → List ℕ → List ℕ

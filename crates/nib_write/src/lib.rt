@@ -1,4 +1,6 @@
 // NIB files written: one made of rings.
+#![tactic(auto)]
+
 ghost use Rattle.std.specs.Prelude.{◌≡◌, ◌+◌, ◌*◌, ◌%◌, ◌<◌, ◌≤◌, eqb, length, get_or};
 ghost use Rattle.std.proofs.lemmas.List.Edits.{sets};
 ghost use Rattle.base.specs.Lists.{joined};
@@ -15,31 +17,20 @@ ghost use Rattle.nib_write.specs.Encoding.{
   out_after,
 };
 
-// The number of bytes written, or the refusal's number.
-#[derive(Drop)]
-pub enum Encoded {
-    Written(usize),
-    Refused(u8),
-}
+use base::Refusal;
 
 // The length of a slot's ring; a missing one is 0.
 fn length_at(lengths: &[u64], slot: usize) -> usize
     ensures { result ≡ get_or lengths.now slot 0 }
 {
-    if slot < lengths.len() {
-        return lengths[slot] as usize;
-    }
-    0
+    lengths.get(slot).copied().unwrap_or(0) as usize
 }
 
 // The zone of a slot; a missing one is 0.
 fn zone_at(zones: &[u8], slot: usize) -> u8
     ensures { result ≡ get_or zones.now slot 0 % 4 }
 {
-    if slot < zones.len() {
-        return zones[slot] % 4;
-    }
-    0
+    zones.get(slot).copied().unwrap_or(0) % 4
 }
 
 // Is the sum of the first 84 lengths the total? It is taken off the total, so that no sum can wrap.
@@ -47,14 +38,12 @@ fn sum_is(lengths: &[u64], total: usize) -> bool
     ensures { result ≡ eqb (sum_to lengths.now 84) total }
 {
     let mut left = total;
-    let mut slot: usize = 0;
-    while slot < 84 {
+    for slot in 0..84 {
         let n = length_at(lengths, slot);
         if left < n {
             return false;
         }
         left -= n;
-        slot += 1;
     }
     left == 0
 }
@@ -63,29 +52,16 @@ fn sum_is(lengths: &[u64], total: usize) -> bool
 fn any_long(lengths: &[u64]) -> bool
     ensures { result ≡ any_long lengths.now 84 }
 {
-    let mut slot: usize = 84;
-    while 0 < slot {
-        slot -= 1;
-        if base::MAX_RING < length_at(lengths, slot) {
-            return true;
-        }
-    }
-    false
+    (0..84).any(|slot| base::MAX_RING < length_at(lengths, slot))
 }
 
 // How many of the first 84 slots have a ring.
 fn count_rings(lengths: &[u64]) -> usize
     ensures { (result ≡ rings_to lengths.now 84) × (result ≤ 84) }
 {
-    let mut count: usize = 0;
-    let mut slot: usize = 0;
-    while slot < 84 {
-        if length_at(lengths, slot) != 0 {
-            count += 1;
-        }
-        slot += 1;
-    }
-    count
+    (0..84)
+        .filter(|&slot| length_at(lengths, slot) != 0)
+        .count()
 }
 
 // The pair of a slot stored, where it has a ring; the place behind it.
@@ -110,24 +86,23 @@ fn put_pairs(out: &mut [u8], lengths: &[u64], zones: &[u8]) -> usize
     ensures value { result ≡ 16 + 2 * rings_to lengths.now 84 }
 {
     let mut at: usize = 16;
-    let mut slot: usize = 0;
-    while slot < 84 {
+    for slot in 0..84 {
         at = put_pair(out, at, lengths, zones, slot);
-        slot += 1;
     }
     at
 }
 
-// A ring repeated over a window.
+// A ring repeated over a window: whole as often as it fits, and then its beginning.
 fn put_window(out: &mut [u8], at: usize, ring: &[u8])
     requires { (0 < length ring.now) × (at + 8192 ≤ length out.old) }
     ensures { out.new ≡ sets out.old at (repeated ring.now) }
 {
-    let mut i: usize = 0;
-    while i < 8192 {
-        out[at + i] = ring[i % ring.len()];
-        i += 1;
+    let n = ring.len();
+    let times = 8192 / n;
+    for k in 0..times {
+        base::store(out, at + k * n, ring);
     }
+    base::store(out, at + times * n, &ring[0..8192 % n]);
 }
 
 // The windows of all slots, one after the other from byte 256 on.
@@ -137,8 +112,7 @@ fn put_windows(out: &mut [u8], lengths: &[u64], rings: &[u8])
 {
     let mut at: usize = 256;
     let mut from: usize = 0;
-    let mut slot: usize = 0;
-    while slot < 84 {
+    for slot in 0..84 {
         let n = length_at(lengths, slot);
         if n != 0 {
             let end = from + n;
@@ -146,7 +120,6 @@ fn put_windows(out: &mut [u8], lengths: &[u64], rings: &[u8])
             from = end;
             at += 8192;
         }
-        slot += 1;
     }
 }
 
@@ -161,25 +134,30 @@ fn put_file(out: &mut [u8], lengths: &[u64], zones: &[u8], rings: &[u8])
     put_windows(out, lengths, rings);
 }
 
-// A NIB file of rings: lent the length and the zone of each slot's ring, and the bytes of all rings joined.
-pub fn encode_nib(lengths: &[u64], zones: &[u8], rings: &[u8], out: &mut [u8]) -> Encoded
+// A NIB file of rings: lent the length and the zone of each slot's ring, and the bytes of all rings joined. The number of bytes written.
+pub fn encode_nib(
+    lengths: &[u64],
+    zones: &[u8],
+    rings: &[u8],
+    out: &mut [u8],
+) -> Result<usize, Refusal>
     ensures value { result ≡ encoded_of lengths.now rings.now out.old }
     ensures out_after { out.new ≡ out_after lengths.now zones.now rings.now out.old }
 {
     if !sum_is(lengths, rings.len()) {
-        return Encoded::Refused(base::WRONG_SUM);
+        return Err(Refusal::WrongSum);
     }
     if any_long(lengths) {
-        return Encoded::Refused(base::RING_TOO_LONG);
+        return Err(Refusal::RingTooLong);
     }
     let n = count_rings(lengths);
     if n == 0 {
-        return Encoded::Refused(base::NO_RING);
+        return Err(Refusal::NoRing);
     }
     let size = 256 + 8192 * n;
     if out.len() < size {
-        return Encoded::Refused(base::NO_ROOM);
+        return Err(Refusal::NoRoom);
     }
     put_file(out, lengths, zones, rings);
-    Encoded::Written(size)
+    Ok(size)
 }

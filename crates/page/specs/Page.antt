@@ -1,8 +1,10 @@
 -- A page of output under way, and text as a list of pieces. A piece that does not fit is left out; on a page that is long enough
 -- all pieces stand one after the other (`long_enough` in proofs/PageLaws).
-use Rattle.std.specs.Prelude.{ℕ, zero, suc, ◌+◌, List, [], ◌∷◌, ◌++◌, leb, length}
+use Rattle.std.specs.Prelude.{ℕ, zero, suc, ◌+◌, List, [], ◌∷◌, ◌++◌, leb, length, take}
+use Rattle.std.specs.Borrow.{MutBor}
 use Rattle.std.proofs.lemmas.List.Edits.{sets}
 use Rattle.base.specs.Choice.{pick}
+use Rattle.page.specs.declared.Page.{Page}
 
 -- a text: pieces, each of them bytes
 abbrev pub Text : Type 0
@@ -18,20 +20,20 @@ unfoldable pub together : ℕ → (ℕ → Text) → Text
 together zero f = []
 together (suc n) f = together n f ++ f n
 
--- a page: its bytes, and the place where the next piece goes
-pub record Page : Type 0 where
-  pub bytes : List ℕ
-  pub place : ℕ
-
-abbrev pub sheet : List ℕ → ℕ → Page
+-- a page: the bytes that were lent, and the place where the next piece goes
+abbrev pub sheet : MutBor (List ℕ) → ℕ → Page
 sheet bytes place = record { bytes = bytes; place = place }
 
 -- the page with a piece put, where it fits; and with a text
 unfoldable pub with_piece : Page → List ℕ → Page
 with_piece page piece =
-    pick (leb (page.place + length piece) (length page.bytes))
-    (sheet (sets page.bytes page.place piece) (page.place + length piece)) page
+    pick (leb (page.place + length piece) (length page.bytes.now))
+    (sheet (record page.bytes { now = sets page.bytes.now page.place piece }) (page.place + length piece)) page
 
-unfoldable pub writes : Page → Text → Page
+abbrev pub writes : Page → Text → Page
 writes page [] = page
 writes page (piece ∷ text) = writes (with_piece page piece) text
+
+-- what is written so far
+abbrev pub written : Page → List ℕ
+written page = take page.place page.bytes.now

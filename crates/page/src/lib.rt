@@ -1,79 +1,105 @@
-// A page of output, put together text by text: each function puts its text at a place of the lent page and answers the place behind it.
-// A piece that does not fit is left out.
-ghost use Rattle.std.specs.Prelude.{◌≡◌, ◌≤◌, [], ◌∷◌, ◌++◌, length, take};
+// A page of output, put together text by text: each method puts its text behind what the page holds. A piece that does not fit is left out.
+ghost use Rattle.std.specs.Prelude.{◌≡◌, ◌+◌, ◌≤◌, [], ◌∷◌, ◌++◌, length, take, leb};
 ghost use Rattle.page_text.specs.Numerals.{decimal as decimal_text};
-ghost use Rattle.page.specs.Page.{sheet, writes};
+ghost use Rattle.page.specs.Page.{sheet, writes, written};
 ghost use Rattle.page.specs.Wording.{number_text, sum_text, refused_text};
 
-// Bytes as they are.
-pub fn words(page: &mut [u8], at: usize, text: &[u8]) -> usize
-    ensures { sheet page.new result ≡ writes (sheet page.old at) (text.now ∷ []) }
-{
-    if page.len() < at {
-        return at;
+// A page under way: the bytes that were lent, and the place where the next piece goes.
+#[derive(Drop)]
+pub struct Page<'a> {
+    bytes: &'a mut [u8],
+    place: usize,
+}
+
+impl<'a> Page<'a> {
+    // A page with nothing written.
+    pub fn new(bytes: &'a mut [u8]) -> Page<'a>
+        ensures { result ≡ sheet bytes.entry 0 }
+    {
+        Page { bytes, place: 0 }
     }
-    if page.len() - at < text.len() {
-        return at;
+
+    // Is there room for n more bytes?
+    fn has_room(&self, n: usize) -> bool
+        ensures { result ≡ leb (self.now.place + n) (length self.now.bytes.now) }
+    {
+        self.place <= self.bytes.len() && n <= self.bytes.len() - self.place
     }
-    page_text::put_bytes(page, at, text)
-}
 
-// A label and a number in decimal, as one piece.
-fn labelled(page: &mut [u8], at: usize, label: &[u8], n: u64) -> usize
-    requires { length label.now ≤ 8 }
-    ensures { sheet page.new result ≡ writes (sheet page.old at) ((label.now ++ decimal_text n) ∷ []) }
-{
-    let mut piece = [0u8; 28];
-    let digits = page_text::put_bytes(&mut piece, 0, label);
-    let end = page_text::put_decimal(&mut piece, digits, n);
-    words(page, at, so_far(&piece, end))
-}
+    // Bytes as they are.
+    pub fn words(&mut self, text: &[u8])
+        ensures { self.new ≡ writes self.old (text.now ∷ []) }
+    {
+        if self.has_room(text.len()) {
+            let bytes = &mut *self.bytes;
+            self.place = page_text::put_bytes(bytes, self.place, text);
+        }
+    }
 
-// The digits of a number.
-pub fn decimal(page: &mut [u8], at: usize, n: u64) -> usize
-    ensures { sheet page.new result ≡ writes (sheet page.old at) (decimal_text n ∷ []) }
-{
-    labelled(page, at, b"", n)
-}
+    // A label and a number in decimal, as one piece.
+    fn labelled(&mut self, label: &[u8], n: u64)
+        requires { length label.now ≤ 8 }
+        ensures { self.new ≡ writes self.old ((label.now ++ decimal_text n) ∷ []) }
+    {
+        let mut piece = [0u8; 28];
+        let digits = page_text::put_bytes(&mut piece, 0, label);
+        let end = page_text::put_decimal(&mut piece, digits, n);
+        self.words(so_far(&piece, end));
+    }
 
-// A space and a number.
-pub fn number(page: &mut [u8], at: usize, n: u64) -> usize
-    ensures { sheet page.new result ≡ writes (sheet page.old at) (number_text n ∷ []) }
-{
-    labelled(page, at, b" ", n)
-}
+    // The digits of a number.
+    pub fn decimal(&mut self, n: u64)
+        ensures { self.new ≡ writes self.old (decimal_text n ∷ []) }
+    {
+        self.labelled(b"", n);
+    }
 
-// A refusal by its number.
-pub fn refused(page: &mut [u8], at: usize, n: u8) -> usize
-    ensures { sheet page.new result ≡ writes (sheet page.old at) (refused_text n ∷ []) }
-{
-    labelled(page, at, b"refused ", n as u64)
-}
+    // A space and a number.
+    pub fn number(&mut self, n: u64)
+        ensures { self.new ≡ writes self.old (number_text n ∷ []) }
+    {
+        self.labelled(b" ", n);
+    }
 
-// A word and the digits of a number.
-pub fn valued(page: &mut [u8], at: usize, word: &[u8], n: u64) -> usize
-    ensures { sheet page.new result ≡ writes (sheet page.old at) (word.now ∷ decimal_text n ∷ []) }
-{
-    let behind = words(page, at, word);
-    decimal(page, behind, n)
-}
+    // A refusal by its number.
+    pub fn refused(&mut self, n: u8)
+        ensures { self.new ≡ writes self.old (refused_text n ∷ []) }
+    {
+        self.labelled(b"refused ", u64::from(n));
+    }
 
-// A word, a space and a number.
-pub fn counted(page: &mut [u8], at: usize, word: &[u8], n: u64) -> usize
-    ensures { sheet page.new result ≡ writes (sheet page.old at) (word.now ∷ number_text n ∷ []) }
-{
-    let behind = words(page, at, word);
-    number(page, behind, n)
-}
+    // A word and the digits of a number.
+    pub fn valued(&mut self, word: &[u8], n: u64)
+        ensures { self.new ≡ writes self.old (word.now ∷ decimal_text n ∷ []) }
+    {
+        self.words(word);
+        self.decimal(n);
+    }
 
-// A checksum in eight hex digits, with the word sum before it.
-pub fn sum(page: &mut [u8], at: usize, s: u32) -> usize
-    ensures { sheet page.new result ≡ writes (sheet page.old at) (sum_text s ∷ []) }
-{
-    let mut piece = [0u8; 13];
-    page_text::put_bytes(&mut piece, 0, b" sum ");
-    page_text::put_hex_word(&mut piece, 5, s);
-    words(page, at, &piece)
+    // A word, a space and a number.
+    pub fn counted(&mut self, word: &[u8], n: u64)
+        ensures { self.new ≡ writes self.old (word.now ∷ number_text n ∷ []) }
+    {
+        self.words(word);
+        self.number(n);
+    }
+
+    // A checksum in eight hex digits, with the word sum before it.
+    pub fn sum(&mut self, s: u32)
+        ensures { self.new ≡ writes self.old (sum_text s ∷ []) }
+    {
+        let mut piece = [0u8; 13];
+        page_text::put_bytes(&mut piece, 0, b" sum ");
+        page_text::put_hex_word(&mut piece, 5, s);
+        self.words(&piece);
+    }
+
+    // What is written so far.
+    pub fn written(&self) -> &[u8]
+        ensures { result.now ≡ written self.now }
+    {
+        so_far(self.bytes, self.place)
+    }
 }
 
 // The first n bytes of a page, all of it where it has no more.
@@ -81,7 +107,7 @@ pub fn so_far(page: &[u8], n: usize) -> &[u8]
     ensures { result.now ≡ take n page.now }
 {
     if page.len() < n {
-        return &page[0..];
+        return page;
     }
-    &page[0..n]
+    &page[..n]
 }

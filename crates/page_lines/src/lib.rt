@@ -1,94 +1,95 @@
-// What the desk's lines have in common, put on a lent page: how many sectors read, the line of a refusal, the line of what was cleared.
+// What the desk's lines have in common, put on a page: how many sectors read, the line of a refusal, the line of what was cleared.
 ghost use Rattle.std.specs.Prelude.{◌≡◌, ◌<◌, length};
 ghost use Rattle.base.specs.Lists.{count_of};
-ghost use Rattle.page.specs.Page.{sheet, writes};
-ghost use Rattle.page_lines.specs.Tally.{status_text, unread_at, unread, missing_text, tally_text};
+ghost use Rattle.page.specs.Page.{writes};
+ghost use Rattle.page_lines.specs.Tally.{status_text, detail_text, unread_at, unread, missing_text, tally_text};
 ghost use Rattle.page_lines.specs.Answers.{refused_line, cleared_line};
+
+use page::Page;
+
+// What is told of a sector that does not read.
+#[derive(Clone, Copy, Debug, PartialEq, Eq)]
+pub enum Detail {
+    Number,
+    Status,
+}
 
 // How many statuses are 1.
 pub fn count_reading(statuses: &[u8]) -> usize
     ensures { result ≡ count_of 1 statuses.now }
 {
-    let mut count: usize = 0;
-    let mut j = statuses.len();
-    while 0 < j {
-        j -= 1;
-        if statuses[j] == 1 {
-            count += 1;
-        }
-    }
-    count
+    statuses.iter().filter(|status| **status == 1).count()
 }
 
-fn put_status(page: &mut [u8], at: usize, status: u8) -> usize
-    ensures { sheet page.new result ≡ writes (sheet page.old at) (status_text status) }
+fn put_status(page: &mut Page, status: u8)
+    ensures { page.new ≡ writes page.old (status_text status) }
 {
-    let behind = page::valued(page, at, b" (", status as u64);
-    page::words(page, behind, b")")
+    page.valued(b" (", u64::from(status));
+    page.words(b")");
 }
 
-// A sector's number, where it does not read, and its status where that is asked.
-fn put_unread_at(page: &mut [u8], at: usize, statuses: &[u8], asked: bool, j: usize) -> usize
+// What is told of a sector besides its number.
+fn put_detail(page: &mut Page, detail: Detail, status: u8)
+    ensures { page.new ≡ writes page.old (detail_text detail status) }
+{
+    match detail {
+        Detail::Number => (),
+        Detail::Status => put_status(page, status),
+    }
+}
+
+// A sector, where it does not read.
+fn put_unread_at(page: &mut Page, statuses: &[u8], detail: Detail, j: usize)
     requires { j < length statuses.now }
-    ensures { sheet page.new result ≡ writes (sheet page.old at) (unread_at asked statuses.now j) }
+    ensures { page.new ≡ writes page.old (unread_at detail statuses.now j) }
 {
-    if statuses[j] == 1 {
-        return at;
+    if statuses[j] != 1 {
+        page.number(j as u64);
+        put_detail(page, detail, statuses[j]);
     }
-    let behind = page::number(page, at, j as u64);
-    if asked {
-        return put_status(page, behind, statuses[j]);
-    }
-    behind
 }
 
-// The numbers of all sectors that do not read, with their statuses where that is asked.
-pub fn put_unread(page: &mut [u8], at: usize, statuses: &[u8], asked: bool) -> usize
-    ensures { sheet page.new result ≡ writes (sheet page.old at) (unread asked statuses.now) }
+// All sectors that do not read.
+pub fn put_unread(page: &mut Page, statuses: &[u8], detail: Detail)
+    ensures { page.new ≡ writes page.old (unread detail statuses.now) }
 {
-    let mut behind = at;
-    let mut j: usize = 0;
-    while j < statuses.len() {
-        behind = put_unread_at(page, behind, statuses, asked, j);
-        j += 1;
+    for j in 0..statuses.len() {
+        put_unread_at(page, statuses, detail, j);
     }
-    behind
 }
 
-fn put_missing(page: &mut [u8], at: usize, statuses: &[u8], asked: bool) -> usize
-    ensures { sheet page.new result ≡ writes (sheet page.old at) (missing_text asked statuses.now) }
+fn put_missing(page: &mut Page, statuses: &[u8], detail: Detail)
+    ensures { page.new ≡ writes page.old (missing_text detail statuses.now) }
 {
-    let behind = page::words(page, at, b" missing");
-    put_unread(page, behind, statuses, asked)
+    page.words(b" missing");
+    put_unread(page, statuses, detail);
 }
 
-// How many sectors read, of how many, and those that do not; with their statuses where that is asked.
-pub fn tally(page: &mut [u8], at: usize, word: &[u8], statuses: &[u8], asked: bool) -> usize
-    ensures { sheet page.new result ≡ writes (sheet page.old at)
-        (tally_text asked word.now statuses.now) }
+// How many sectors read, of how many, and those that do not.
+pub fn tally(page: &mut Page, word: &[u8], statuses: &[u8], detail: Detail)
+    ensures { page.new ≡ writes page.old (tally_text detail word.now statuses.now) }
 {
     let count = count_reading(statuses);
-    let a = page::counted(page, at, word, count as u64);
-    let b = page::counted(page, a, b" of", statuses.len() as u64);
-    if count == statuses.len() {
-        return b;
+    page.counted(word, count as u64);
+    page.counted(b" of", statuses.len() as u64);
+    if count != statuses.len() {
+        put_missing(page, statuses, detail);
     }
-    put_missing(page, b, statuses, asked)
 }
 
 // The line of a refusal.
-pub fn refused_line(page: &mut [u8], at: usize, number: u8) -> usize
-    ensures { sheet page.new result ≡ writes (sheet page.old at) (refused_line number) }
+pub fn refused_line(page: &mut Page, number: u8)
+    ensures { page.new ≡ writes page.old (refused_line number) }
 {
-    let behind = page::refused(page, at, number);
-    page::words(page, behind, b"\n")
+    page.refused(number);
+    page.words(b"\n");
 }
 
 // The line of what was cleared.
-pub fn cleared_line(page: &mut [u8], at: usize, free: usize, changed: usize) -> usize
-    ensures { sheet page.new result ≡ writes (sheet page.old at) (cleared_line free changed) }
+pub fn cleared_line(page: &mut Page, free: usize, changed: usize)
+    ensures { page.new ≡ writes page.old (cleared_line free changed) }
 {
-    let a = page::counted(page, at, b"free", free as u64);
-    let b = page::counted(page, a, b" changed", changed as u64);
-    page::words(page, b, b"\n")
+    page.counted(b"free", free as u64);
+    page.counted(b" changed", changed as u64);
+    page.words(b"\n");
 }

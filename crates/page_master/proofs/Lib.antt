@@ -1,2 +1,1 @@
-pub mod MasterLaws
 pub mod MasterLengths

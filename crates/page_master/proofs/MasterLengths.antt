@@ -1,6 +1,6 @@
 -- How long the lines of a master are: they fit on the page that the program lends, so that by `printed` (page) all of them are written.
+use Rattle.std.specs.Prelude.{Option, Some, None}
 use mathlib.Core.Path.{◌≡◌, refl}
-use mathlib.Core.Bool.{true}
 use mathlib.Core.List.{List, [], ◌∷◌, ◌++◌}
 use Prim.Native.Nat.{ℕ, suc, ◌≤◌, ◌<◌, ◌^◌}
 use native.Mathlib.Omega.{arith}
@@ -9,8 +9,6 @@ use lib.ListN.{length, get_or, length-append}
 use Rattle.base.specs.Lists.{count_of}
 use Rattle.base.specs.Words.{ascii}
 use Rattle.base.proofs.Picks.{pick_ind}
-use Rattle.geometry.specs.declared.TrackCount.{TrackCount}
-use Rattle.geometry.specs.declared.TrackCount.TheVariants.{Tracks, NoD64}
 use Rattle.geometry.specs.D64.{tracks_of}
 use Rattle.geometry.proofs.D64Laws.{d64_facts}
 use Rattle.geometry.proofs.ZoneLaws.{sectors_of_lem}
@@ -18,6 +16,7 @@ use Rattle.page_text.proofs.DecimalLaws.{decimal_width}
 use Rattle.page.specs.Page.{all_of}
 use Rattle.page.specs.Wording.{number_text}
 use Rattle.page.proofs.PageLaws.{append-long, together-long, Within}
+use Rattle.page_lines.specs.declared.Detail.TheVariants.{Status}
 use Rattle.page_lines.specs.Tally.{unread}
 use Rattle.page_lines.proofs.TallyLengths.{unread-long}
 use Rattle.page_status.specs.Marks.{is_met}
@@ -33,14 +32,14 @@ line_long : (track : ℕ) (statuses : List ℕ) → track < 100 → length statu
 unfolding spoiled_line all_of
 line_long track statuses t few small =
     pick_ind (Within 170) (eqb (count_of 1 statuses) (length statuses)) []
-    (ascii "track" ∷ number_text track ∷ ascii " spoiled" ∷ (unread true statuses ++ (ascii "\n" ∷ [])))
+    (ascii "track" ∷ number_text track ∷ ascii " spoiled" ∷ (unread Status statuses ++ (ascii "\n" ∷ [])))
     (λ e. omega arith)
     (λ e. simp length-append
     (omega (
       arith,
       decimal_width 1 track (omega arith),
-      append-long (unread true statuses) (ascii "\n" ∷ []),
-      unread-long true statuses (λ a. small) few,
+      append-long (unread Status statuses) (ascii "\n" ∷ []),
+      unread-long Status statuses (λ a. small) few,
     )))
 
 module _ (d64 : List ℕ) (highest : ℕ) (h : highest ≤ 42) where
@@ -72,11 +71,11 @@ module _ (d64 : List ℕ) (highest : ℕ) (h : highest ≤ 42) where
   tracks_long bytes b =
       omega (arith, append-long (written_line highest bytes) (spoiled_text d64 highest), written-long bytes b, spoiled-long)
 
-by_count : (t : TrackCount) (d64 : List ℕ) (bytes : ℕ) → bytes < 10 ^ 20 → ((n : ℕ) → t ≡ Tracks n → n ≤ 42)
+by_count : (t : Option ℕ) (d64 : List ℕ) (bytes : ℕ) → bytes < 10 ^ 20 → ((n : ℕ) → t ≡ Some n → n ≤ 42)
     → Within 8192 (text_by t d64 bytes)
 unfolding all_of
-by_count (Tracks n) d64 bytes b f = tracks_long d64 n (f n refl) bytes b
-by_count NoD64 d64 bytes b f = omega arith
+by_count (Some n) d64 bytes b f = tracks_long d64 n (f n refl) bytes b
+by_count None d64 bytes b f = omega arith
 
 -- numbers of a machine
 pub master_fits : (d64 : List ℕ) (bytes : ℕ) → bytes < 10 ^ 20 → Within 8192 (master_text d64 bytes)

@@ -1,14 +1,13 @@
 -- What is told of a master, the G64 of a D64: how many tracks and bytes were written, and which sectors their error bytes spoil, so that
 -- they do not read from it.
-use Rattle.std.specs.Prelude.{ℕ, suc, true, List, [], ◌∷◌, ◌++◌, eqb, length}
+use Rattle.std.specs.Prelude.{ℕ, suc, List, [], ◌∷◌, ◌++◌, eqb, length, Option, Some, None}
 use Rattle.base.specs.Choice.{pick}
 use Rattle.base.specs.Lists.{count_of}
 use Rattle.base.specs.Words.{ascii}
-use Rattle.geometry.specs.declared.TrackCount.{TrackCount}
-use Rattle.geometry.specs.declared.TrackCount.TheVariants.{Tracks, NoD64}
 use Rattle.geometry.specs.D64.{tracks_of}
 use Rattle.page.specs.Page.{Text, together}
 use Rattle.page.specs.Wording.{number_text}
+use Rattle.page_lines.specs.declared.Detail.TheVariants.{Status}
 use Rattle.page_lines.specs.Tally.{unread}
 use Rattle.page_status.specs.Marks.{is_met}
 use Rattle.page_status.specs.Meanings.{legend_text}
@@ -21,7 +20,7 @@ written_line tracks bytes = ascii "tracks" ∷ number_text tracks ∷ ascii " by
 unfoldable pub spoiled_line : ℕ → List ℕ → Text
 spoiled_line track statuses =
     pick (eqb (count_of 1 statuses) (length statuses)) []
-    (ascii "track" ∷ number_text track ∷ ascii " spoiled" ∷ (unread true statuses ++ (ascii "\n" ∷ [])))
+    (ascii "track" ∷ number_text track ∷ ascii " spoiled" ∷ (unread Status statuses ++ (ascii "\n" ∷ [])))
 
 -- those of the first n tracks of a D64 whose highest track is this
 abbrev pub spoiled_lines : List ℕ → ℕ → ℕ → Text
@@ -35,9 +34,9 @@ abbrev pub tracks_text : ℕ → List ℕ → ℕ → Text
 tracks_text highest d64 bytes = written_line highest bytes ++ spoiled_text d64 highest
 
 -- by the tracks that the size of the D64 tells
-abbrev pub text_by : TrackCount → List ℕ → ℕ → Text
-text_by (Tracks highest) d64 bytes = tracks_text highest d64 bytes
-text_by NoD64 d64 bytes = []
+abbrev pub text_by : Option ℕ → List ℕ → ℕ → Text
+text_by (Some highest) d64 bytes = tracks_text highest d64 bytes
+text_by None d64 bytes = []
 
 unfoldable pub master_text : List ℕ → ℕ → Text
 master_text d64 bytes = text_by (tracks_of (length d64)) d64 bytes

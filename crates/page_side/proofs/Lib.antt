@@ -1,4 +1,3 @@
-pub mod FrameLaws
 pub mod PictureLengths
 pub mod ArcLaws
 pub mod ArcsLengths

@@ -14,8 +14,7 @@ use lib.ListN.{length}
 use Rattle.base.specs.Choice.{pick}
 use Rattle.base.proofs.Tests.{eqb_yes}
 use Rattle.ring.specs.Bit.{bits, bit_at}
-use Rattle.scan_sync.specs.declared.SyncEnd.{SyncEnd}
-use Rattle.scan_sync.specs.declared.SyncEnd.TheVariants.{At, Nothing}
+use Rattle.std.specs.Prelude.{Option, Some, None}
 use Rattle.scan_sync.proofs.SyncLaws.{SyncFound, sync_complete, none-at, further}
 use Rattle.scan_visit.specs.Visit.{visit}
 use Rattle.scan.specs.declared.SectorRecord.{SectorRecord}
@@ -28,7 +27,7 @@ use Rattle.page_slot.specs.Turn.{there_of, turn_records}
 
 -- ---- two scans of the same bits, one with an earlier end
 module _ (x : ℕ → ℕ) (track near far : ℕ) (l : near ≤ far) where
-  same-sync : (b h : ℕ) → next_sync x near b ≡ At h → next_sync x far b ≡ At h
+  same-sync : (b h : ℕ) → next_sync x near b ≡ Some h → next_sync x far b ≡ Some h
   same-sync b h w =
       let m : b < near = (next-found x near b h w).0 in
       next_yes x far b (omega arith)
@@ -53,7 +52,7 @@ module _ (x : ℕ → ℕ) (track near far : ℕ) (l : near ≤ far) where
   beyond b k = from_near far b (omega arith) k
 
   -- a turn of the longer scan, at a sync end behind the near end
-  past : (b h : ℕ) → next_sync x far b ≡ At h → near ≤ h → Every Beyond (records_from x track far b)
+  past : (b h : ℕ) → next_sync x far b ≡ Some h → near ≤ h → Every Beyond (records_from x track far b)
   past b h w k = go (step_of (visit x track h)) refl
     where
       go : (v : Step) → step_of (visit x track h) ≡ v → Every Beyond (records_from x track far b)
@@ -65,7 +64,7 @@ module _ (x : ℕ → ℕ) (track near far : ℕ) (l : near ≤ far) where
           (omega (arith, good-on x track h r g), beyond (r.place + 2600) (omega (arith, good-on x track h r g)))
 
   -- where the shorter scan finds no sync end any more
-  unfound : (b : ℕ) → next_sync x near b ≡ Nothing → Every Beyond (records_from x track far b)
+  unfound : (b : ℕ) → next_sync x near b ≡ None → Every Beyond (records_from x track far b)
   unfound b w = go (dec_lt b near) (next_sync x far b) refl
     where
       at : (h : ℕ) → b < near → SyncFound x b (b + (far + 16 - b)) h → Dec (h < near) → near ≤ h
@@ -74,10 +73,10 @@ module _ (x : ℕ → ℕ) (track near far : ℕ) (l : near ≤ far) where
           let c = sync_complete x 0 (near + 16 - b) b h f.0 (omega (arith, f.1)) (omega arith) (omega (arith, f.1)) in
           absurd (none-at c.0 (sym w ∙ next_yes x near b m ∙ c.1))
 
-      go : Dec (b < near) → (o : SyncEnd) → next_sync x far b ≡ o → Every Beyond (records_from x track far b)
+      go : Dec (b < near) → (o : Option ℕ) → next_sync x far b ≡ o → Every Beyond (records_from x track far b)
       go (no m) o e = beyond b (omega arith)
-      go (yes m) Nothing e = subst (Every Beyond) (sym (no_sync_lem x track far b e)) tt
-      go (yes m) (At h) e = past b h e (at h m (next-found x far b h e).1 (dec_lt h near))
+      go (yes m) None e = subst (Every Beyond) (sym (no_sync_lem x track far b e)) tt
+      go (yes m) (Some h) e = past b h e (at h m (next-found x far b h e).1 (dec_lt h near))
 
   pub record Split (b : ℕ) : Type 0 where
     pub rest : List SectorRecord
@@ -96,7 +95,7 @@ module _ (x : ℕ → ℕ) (track near far : ℕ) (l : near ≤ far) where
       Next : Type 0
       Next = (c : ℕ) → near ≤ n + c → Split c
 
-      step : (h : ℕ) → next_sync x near b ≡ At h → (v : Step) → step_of (visit x track h) ≡ v → Next → Split b
+      step : (h : ℕ) → next_sync x near b ≡ Some h → (v : Step) → step_of (visit x track h) ≡ v → Next → Split b
       step h w (skip c) g ih =
           let s : Split c = ih c (omega (arith, (next-found x near b h w).1.1, skip_on x track h c g)) in
           record {
@@ -117,14 +116,14 @@ module _ (x : ℕ → ℕ) (track near far : ℕ) (l : near ≤ far) where
             behind = s.behind;
           }
 
-      go : (o : SyncEnd) → next_sync x near b ≡ o → Next → Split b
-      go Nothing w ih =
+      go : (o : Option ℕ) → next_sync x near b ≡ o → Next → Split b
+      go None w ih =
           record {
             rest = records_from x track far b;
             split = ap (λ (rs : List SectorRecord). rs ++ records_from x track far b) (sym (no_sync_lem x track near b w));
             behind = unfound b w;
           }
-      go (At h) w ih = step h w (step_of (visit x track h)) refl ih
+      go (Some h) w ih = step h w (step_of (visit x track h)) refl ih
 
   pub splits : (b : ℕ) → Split b
   splits b = splits_in near b (omega arith)
@@ -136,7 +135,8 @@ module _ (P : SectorRecord → Type 0) where
   both (r ∷ l) m t u = (t.0, both l m t.1 u)
 
 -- a sector that is not handed out has no record
-pub no_record_lem : (P : SectorRecord → Type 0) (j : ℕ) (l : List SectorRecord) → there_of (first_of j l) ≢ 1 → Every (λ r. r.sector ≡ j → P r) l
+pub no_record_lem : (P : SectorRecord → Type 0) (j : ℕ) (l : List SectorRecord) → there_of (first_of j l) ≢ 1
+    → Every (λ r. r.sector ≡ j → P r) l
 unfolding first_of
 no_record_lem P j [] n = tt
 no_record_lem P j (r ∷ l) n = (

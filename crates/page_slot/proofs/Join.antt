@@ -15,8 +15,7 @@ use Rattle.base.specs.Choice.{pick}
 use Rattle.gcr.specs.Symbols.{Decoded}
 use Rattle.gcr.specs.Places.{decode_at}
 use Rattle.ring.specs.Bit.{bits, bit_at}
-use Rattle.scan_sync.specs.declared.SyncEnd.{SyncEnd}
-use Rattle.scan_sync.specs.declared.SyncEnd.TheVariants.{At, Nothing}
+use Rattle.std.specs.Prelude.{Option, Some, None}
 use Rattle.scan_sync.specs.Sync.{sync_end}
 use Rattle.scan_sync.proofs.SyncLaws.{SyncAt, sync_complete}
 use Rattle.scan_visit.specs.Visit.{DataFound, AnotherHeader, Visit, header_mark, by_data, data_at, by_sync, data_for, by_header, visit}
@@ -39,7 +38,7 @@ module _ (x y : ℕ → ℕ) (track end : ℕ) (same : Agree x y 0 end) (P : Sec
 
   -- where no sync from h + 90 on ends before D, no record from h on ends in time
   too_late : (h D : ℕ) → ((q : ℕ) → SyncAt x q → h + 90 ≤ q → D ≤ q) → end < D + 2600 → (n b : ℕ) → end ≤ n + b
-      → ((k : ℕ) → next_sync x end b ≡ At k → h ≤ k) → Every InTime (records_from x track end b)
+      → ((k : ℕ) → next_sync x end b ≡ Some k → h ≤ k) → Every InTime (records_from x track end b)
   too_late h D far late zero b m from = subst (Every InTime) (sym (over x track end b (omega arith))) tt
   too_late h D far late (suc n) b m from =
       go (next_sync x end b) refl (λ c k l. too_late h D far late n c k (λ q w. omega (arith, (next-found x end c q w).1.1)))
@@ -47,7 +46,8 @@ module _ (x y : ℕ → ℕ) (track end : ℕ) (same : Agree x y 0 end) (P : Sec
       Next : Type 0
       Next = (c : ℕ) → end ≤ n + c → h ≤ c → Every InTime (records_from x track end c)
 
-      step : (k : ℕ) → next_sync x end b ≡ At k → (v : Step) → step_of (visit x track k) ≡ v → Next → Every InTime (records_from x track end b)
+      step : (k : ℕ) → next_sync x end b ≡ Some k → (v : Step) → step_of (visit x track k) ≡ v → Next
+          → Every InTime (records_from x track end b)
       step k w (skip c) g ih =
           subst (Every InTime) (sym (at-sync x track end b k w ∙ ap (λ (s : Step). on_step s (records_from x track end)) g))
           (ih c (omega (arith, (next-found x end b k w).1.1, skip_on x track k c g)) (omega (arith, from k w, skip_on x track k c g)))
@@ -59,30 +59,30 @@ module _ (x y : ℕ → ℕ) (track end : ℕ) (same : Agree x y 0 end) (P : Sec
             ih (r.place + 2600) (omega (arith, (next-found x end b k w).1.1, f.1)) (omega (arith, from k w, f.1)),
           )
 
-      go : (o : SyncEnd) → next_sync x end b ≡ o → Next → Every InTime (records_from x track end b)
-      go Nothing w ih = subst (Every InTime) (sym (no_sync_lem x track end b w)) tt
-      go (At k) w ih = step k w (step_of (visit x track k)) refl ih
+      go : (o : Option ℕ) → next_sync x end b ≡ o → Next → Every InTime (records_from x track end b)
+      go None w ih = subst (Every InTime) (sym (no_sync_lem x track end b w)) tt
+      go (Some k) w ih = step k w (step_of (visit x track k)) refl ih
 
   -- the first sync end of the data search is the first of all
-  first_data : (h d : ℕ) → sync_end x (h + 80) 768 ≡ At d → (q : ℕ) → SyncAt x q → h + 90 ≤ q → d ≤ q
+  first_data : (h d : ℕ) → sync_end x (h + 80) 768 ≡ Some d → (q : ℕ) → SyncAt x q → h + 90 ≤ q → d ≤ q
   first_data h d w q s l = go (dec_lt q (h + 848))
     where
       go : Dec (q < h + 848) → d ≤ q
       go (no k) = omega (arith, (found-sync x (h + 80) 768 d w).2)
       go (yes k) =
           let c = sync_complete x 0 768 (h + 80) q s (omega arith) (omega arith) (omega arith) in
-          let e : At c.0 ≡ At d = sym c.1 ∙ w in
+          let e : Some c.0 ≡ Some d = sym c.1 ∙ w in
           let f : c.0 ≡ d = cc in
           omega (arith, c.2)
 
-  no_data_lem : (h : ℕ) → sync_end x (h + 80) 768 ≡ Nothing → (q : ℕ) → SyncAt x q → h + 90 ≤ q → h + 848 ≤ q
+  no_data_lem : (h : ℕ) → sync_end x (h + 80) 768 ≡ None → (q : ℕ) → SyncAt x q → h + 90 ≤ q → h + 848 ≤ q
   no_data_lem h w q s l = go (dec_lt q (h + 848))
     where
       go : Dec (q < h + 848) → h + 848 ≤ q
       go (no k) = omega arith
       go (yes k) =
           let c = sync_complete x 0 768 (h + 80) q s (omega arith) (omega arith) (omega arith) in
-          let e : At c.0 ≡ Nothing = sym c.1 ∙ w in
+          let e : Some c.0 ≡ None = sym c.1 ∙ w in
           absurd (let z : ◌≡◌ {A = ℕ} 0 1 = cc in omega arith)
 
   -- a visit that looks at bits below the end only
@@ -105,7 +105,7 @@ module _ (x y : ℕ → ℕ) (track end : ℕ) (same : Agree x y 0 end) (P : Sec
   Kept b = Every P (records_from y track end b) → Every InTime (records_from x track end b)
 
   -- a turn in which both see the same
-  in_step : (n b h : ℕ) → end ≤ suc n + b → next_sync x end b ≡ At h → next_sync y end b ≡ At h → visit x track h ≡ visit y track h
+  in_step : (n b h : ℕ) → end ≤ suc n + b → next_sync x end b ≡ Some h → next_sync y end b ≡ Some h → visit x track h ≡ visit y track h
       → ((c : ℕ) → end ≤ n + c → Every P (records_from y track end c) → Every InTime (records_from x track end c))
       → Every P (records_from y track end b) → Every InTime (records_from x track end b)
   in_step n b h m w u e ih p = go (step_of (visit x track h)) refl
@@ -135,42 +135,42 @@ module _ (x y : ℕ → ℕ) (track end : ℕ) (same : Agree x y 0 end) (P : Sec
       Out : Type 0
       Out = Every InTime (records_from x track end b)
 
-      late : (h D : ℕ) → next_sync x end b ≡ At h → ((q : ℕ) → SyncAt x q → h + 90 ≤ q → D ≤ q) → end < D + 2600 → Out
+      late : (h D : ℕ) → next_sync x end b ≡ Some h → ((q : ℕ) → SyncAt x q → h + 90 ≤ q → D ≤ q) → end < D + 2600 → Out
       late h D w far l =
-          too_late h D far l end b (omega arith) (λ k e. let q : At h ≡ At k = sym w ∙ e in let f : h ≡ k = cc in omega arith)
+          too_late h D far l end b (omega arith) (λ k e. let q : Some h ≡ Some k = sym w ∙ e in let f : h ≡ k = cc in omega arith)
 
-      turn : (h : ℕ) → next_sync x end b ≡ At h → h + 80 ≤ end → data_for x h ≡ data_for y h → Next → Out
+      turn : (h : ℕ) → next_sync x end b ≡ Some h → h + 80 ≤ end → data_for x h ≡ data_for y h → Next → Out
       turn h w l e ih =
           let k = next-found x end b h w in
-          let u : next_sync y end b ≡ At h =
+          let u : next_sync y end b ≡ Some h =
           next_yes y end b k.0
           ∙ sync_at x y (end + 16 - b) b 0 h (sym (next_yes x end b k.0) ∙ w) (λ i i1 i2. same i (omega arith) (omega arith)) in
           in_step n b h m w u (visit-same h l e) ih p
 
-      by_data_lem : (h : ℕ) → next_sync x end b ≡ At h → h + 80 ≤ end → (o : SyncEnd) → sync_end x (h + 80) 768 ≡ o → Next → Out
-      by_data_lem h w l (At d) e ih = near (dec_le (d + 2600) end)
+      by_data_lem : (h : ℕ) → next_sync x end b ≡ Some h → h + 80 ≤ end → (o : Option ℕ) → sync_end x (h + 80) 768 ≡ o → Next → Out
+      by_data_lem h w l (Some d) e ih = near (dec_le (d + 2600) end)
         where
           near : Dec (d + 2600 ≤ end) → Out
           near (no k) = late h d w (first_data h d e) (omega arith)
           near (yes k) =
-              let f : sync_end y (h + 80) 768 ≡ At d = sync_at x y 768 (h + 80) 0 d e (λ i i1 i2. same i (omega arith) (omega arith)) in
+              let f : sync_end y (h + 80) 768 ≡ Some d = sync_at x y 768 (h + 80) 0 d e (λ i i1 i2. same i (omega arith) (omega arith)) in
               turn h w l (ap (by_sync x) e ∙ data_same d k ∙ sym (ap (by_sync y) f)) ih
-      by_data_lem h w l Nothing e ih = near (dec_le (h + 848) end)
+      by_data_lem h w l None e ih = near (dec_le (h + 848) end)
         where
           near : Dec (h + 848 ≤ end) → Out
           near (no k) = late h (h + 848) w (no_data_lem h e) (omega arith)
           near (yes k) =
-              let f : sync_end y (h + 80) 768 ≡ Nothing =
+              let f : sync_end y (h + 80) 768 ≡ None =
               sym (sync-same x y 768 (h + 80) 0 (λ i i1 i2. same i (omega arith) (omega arith))) ∙ e in
               turn h w l (ap (by_sync x) e ∙ sym (ap (by_sync y) f)) ih
 
-      by_header_lem : (h : ℕ) → next_sync x end b ≡ At h → Dec (h + 80 ≤ end) → Next → Out
+      by_header_lem : (h : ℕ) → next_sync x end b ≡ Some h → Dec (h + 80 ≤ end) → Next → Out
       by_header_lem h w (no l) ih = late h (h + 90) w (λ q s k. k) (omega arith)
       by_header_lem h w (yes l) ih = by_data_lem h w l (sync_end x (h + 80) 768) refl ih
 
-      go : (o : SyncEnd) → next_sync x end b ≡ o → Next → Out
-      go Nothing w ih = subst (Every InTime) (sym (no_sync_lem x track end b w)) tt
-      go (At h) w ih = by_header_lem h w (dec_le (h + 80) end) ih
+      go : (o : Option ℕ) → next_sync x end b ≡ o → Next → Out
+      go None w ih = subst (Every InTime) (sym (no_sync_lem x track end b w)) tt
+      go (Some h) w ih = by_header_lem h w (dec_le (h + 80) end) ih
 
   pub kept : (b : ℕ) → Every P (records_from y track end b) → Every InTime (records_from x track end b)
   kept b p = kept_in end b (omega arith) p

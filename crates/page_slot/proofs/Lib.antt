@@ -1,4 +1,3 @@
-pub mod SpanLaws
 pub mod SlotSpanLengths
 pub mod TurnLaws
 pub mod Behind

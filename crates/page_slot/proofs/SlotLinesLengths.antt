@@ -10,8 +10,8 @@ use Rattle.base.specs.Words.{ascii}
 use Rattle.page.specs.Page.{Text, all_of}
 use Rattle.page.proofs.PageLaws.{append-long, Within}
 use Rattle.base.specs.Choice.{pick}
-use Rattle.nib_catalogue.specs.declared.Entry.{Entry}
-use Rattle.nib_catalogue.specs.declared.Entry.TheVariants.{At, Absent, Refused}
+use Rattle.std.specs.Prelude.{Option, Some, None, Result, Ok, Err}
+use Rattle.base.specs.declared.Refusal.{Refusal}
 use Rattle.nib_catalogue.specs.Catalogue.{zone_at, window_start, window_at}
 use Rattle.nib_orbit.specs.Orbit.{chosen_estimate, chosen}
 use Rattle.nib_slots.specs.Slots.{entry_of}
@@ -51,11 +51,12 @@ line_long window slot zone w z l =
     )
 
 -- ---- of a file
-by_long : (file : List ℕ) (slot : ℕ) (found : Entry) → entry_of file slot ≡ found → Within 2048 (slot_text_by file slot found)
+by_long : (file : List ℕ) (slot : ℕ) (found : Result (Option ℕ) Refusal) → entry_of file slot ≡ found
+    → Within 2048 (slot_text_by file slot found)
 unfolding all_of
-by_long file slot Absent e = omega arith
-by_long file slot (Refused number) e = omega arith
-by_long file slot (At k) e =
+by_long file slot (Ok None) e = omega arith
+by_long file slot (Err why) e = omega arith
+by_long file slot (Ok (Some k)) e =
     line_long (window_at file k) slot (zone_at file k) (omega (arith, length-take 8192 (drop (window_start k) file)))
     (mod-lt (get_or file (17 + 2 * k) 0) (lit< tt)) (low_entry file slot k e)
 

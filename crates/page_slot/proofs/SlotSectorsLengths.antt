@@ -13,6 +13,8 @@ use Rattle.track_read.specs.Answers.{ring_statuses}
 use Rattle.track_read.proofs.StatusLaws.{ring_count}
 use Rattle.base.proofs.Picks.{pick_ind, never}
 use Rattle.page_text.proofs.DecimalLaws.{decimal_width}
+use Rattle.page_lines.specs.declared.Detail.{Detail}
+use Rattle.page_lines.specs.declared.Detail.TheVariants.{Number, Status}
 use Rattle.page_lines.specs.Tally.{tally_text}
 use Rattle.page_status.proofs.MeaningLengths.{name_long}
 use Rattle.page_lines.proofs.TallyLengths.{tally-long}
@@ -57,14 +59,14 @@ found-long : (ring turn window : List ℕ) → length ring ≤ 21 → length win
 unfolding lost_text
 found-long ring turn window r w =
     let l = together-long 32 (lost_at ring turn window) (length ring) (λ j h. lost_at-long ring turn window j (omega arith)) in
-    let one = tally_text false (ascii " ring") ring in
-    let two = tally_text false (ascii " window") window in
+    let one = tally_text Number (ascii " ring") ring in
+    let two = tally_text Number (ascii " window") window in
     omega (
       arith,
       append-long one (two ++ together (length ring) (lost_at ring turn window)),
       append-long two (together (length ring) (lost_at ring turn window)),
-      tally-long false ring (λ e. never _ false e refl) r (ascii " ring"),
-      tally-long false window (λ e. never _ false e refl) w (ascii " window"),
+      tally-long Number ring (λ e. cc) r (ascii " ring"),
+      tally-long Number window (λ e. cc) w (ascii " window"),
       l,
     )
 

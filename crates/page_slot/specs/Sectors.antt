@@ -7,6 +7,7 @@ use Rattle.base.specs.Words.{ascii}
 use Rattle.page.specs.Page.{Text, together}
 use Rattle.track_read.specs.Answers.{ring_statuses}
 use Rattle.track_read.specs.Statuses.{given}
+use Rattle.page_lines.specs.declared.Detail.TheVariants.{Number}
 use Rattle.page_lines.specs.Tally.{tally_text}
 use Rattle.page_status.specs.Meanings.{status_name}
 use Rattle.page_slot.specs.Turn.{turn_statuses}
@@ -53,7 +54,8 @@ lost_text ring turn window = together (length ring) (lost_at ring turn window)
 
 -- the sectors of a track, by their statuses in the ring, in its turn, and in the window
 abbrev pub found_text : List ℕ → List ℕ → List ℕ → Text
-found_text ring turn window = tally_text false (ascii " ring") ring ++ (tally_text false (ascii " window") window ++ lost_text ring turn window)
+found_text ring turn window =
+    tally_text Number (ascii " ring") ring ++ (tally_text Number (ascii " window") window ++ lost_text ring turn window)
 
 -- the ring is the first `span` bytes of the window
 unfoldable pub sectors_text : List ℕ → ℕ → ℕ → Text

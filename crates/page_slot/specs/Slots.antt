@@ -1,14 +1,13 @@
 -- The line of a slot of a NIB file: its zone, the span that is taken for one turn of the disk, how many of the observed pairs of bytes
 -- agree at that span; and of a whole track the sectors that are found in the ring so recovered and in the whole window.
-use Rattle.std.specs.Prelude.{ℕ, ◌+◌, ◌/◌, ◌%◌, List, [], ◌∷◌, ◌++◌, eqb, Bool}
+use Rattle.std.specs.Prelude.{ℕ, ◌+◌, ◌/◌, ◌%◌, List, [], ◌∷◌, ◌++◌, eqb, Bool, Option, Some, None, Result, Ok, Err}
 use Rattle.base.specs.Choice.{pick}
 use Rattle.page.specs.Wording.{number_text}
 use Rattle.base.specs.Words.{ascii}
 use Rattle.page.specs.Page.{Text}
 use Rattle.nib_orbit.specs.Orbit.{chosen_estimate}
 use Rattle.nib_orbit.specs.declared.Estimate.{Estimate}
-use Rattle.nib_catalogue.specs.declared.Entry.{Entry}
-use Rattle.nib_catalogue.specs.declared.Entry.TheVariants.{At, Absent, Refused}
+use Rattle.base.specs.declared.Refusal.{Refusal}
 use Rattle.nib_catalogue.specs.Catalogue.{zone_at, window_at}
 use Rattle.nib_slots.specs.Slots.{entry_of}
 use Rattle.page_slot.specs.Span.{span_text}
@@ -34,10 +33,10 @@ unfoldable pub slot_line : List ℕ → ℕ → ℕ → Text
 slot_line window slot zone = line_by window slot zone (chosen_estimate window zone)
 
 -- of a file; a slot that is absent, or refused, has none
-abbrev pub slot_text_by : List ℕ → ℕ → Entry → Text
-slot_text_by file slot (At k) = slot_line (window_at file k) slot (zone_at file k)
-slot_text_by file slot Absent = []
-slot_text_by file slot (Refused number) = []
+abbrev pub slot_text_by : List ℕ → ℕ → Result (Option ℕ) Refusal → Text
+slot_text_by file slot (Ok (Some k)) = slot_line (window_at file k) slot (zone_at file k)
+slot_text_by file slot (Ok None) = []
+slot_text_by file slot (Err why) = []
 
 unfoldable pub slot_text : List ℕ → ℕ → Text
 slot_text file slot = slot_text_by file slot (entry_of file slot)

@@ -2,7 +2,7 @@
 use mathlib.Core.Path.{◌≡◌, refl, sym, ap, ◌∙◌}
 use mathlib.Core.Bool.{Bool, true, false, ◌||◌}
 use mathlib.Core.List.{List, [], ◌∷◌}
-use Prim.Native.Nat.{ℕ, zero, suc, ◌+◌, ◌<◌}
+use Prim.Native.Nat.{ℕ, zero, suc, ◌+◌, ◌-◌, ◌<◌}
 use native.Mathlib.Numerals.{add-one}
 use native.Mathlib.Omega.{arith}
 use lib.Dec.{eqb}
@@ -29,10 +29,13 @@ pub no_tracks : (statuses : ℕ → List ℕ) (marks : List Bool) → marks ≡ 
 unfolding noted_to
 no_tracks statuses marks = refl
 
-pub track_more : (statuses : ℕ → List ℕ) (k : ℕ) (first before after : List Bool) → before ≡ noted_to statuses k first
-    → after ≡ noted (statuses (k + 1)) before → after ≡ noted_to statuses (k + 1) first
+pub track_more : (statuses : ℕ → List ℕ) (t : ℕ) (first before after : List Bool) → 0 < t → before ≡ noted_to statuses (t - 1) first
+    → after ≡ noted (statuses t) before → after ≡ noted_to statuses (t + 1 - 1) first
 unfolding noted_to
-track_more statuses k first before after e f = rw (add-one k, ← e) (rw (add-one k) at f)
+track_more statuses t first before after h e f =
+    let s : suc (t - 1) ≡ t = omega arith in
+    let n : t + 1 - 1 ≡ suc (t - 1) = omega arith in
+    rw (n, s, ← e) f
 
 -- ---- what is marked was met
 or_true : (a : Bool) → a || true ≡ true

@@ -1,4 +1,5 @@
 // Text put into a lent buffer, piece by piece. Each function has room by its `requires` and answers the place behind.
+// Buffer and place stay two parameters and no page: nothing may be left out here, and the lister's lines are put at places it knows.
 ghost use Rattle.std.specs.Prelude.{◌≡◌, ◌+◌, ◌<◌, ◌≤◌, length};
 ghost use Rattle.page_text.specs.Numerals.{decimal, decimal_of, hex_of};
 ghost use Rattle.page_text.specs.Numerals.{digit as Numerals·digit, hex_digit as Numerals·hex_digit};

@@ -1,3 +1,1 @@
-pub mod TrackLaws
-pub mod SideLaws
 pub mod TrackLinesLengths

@@ -1,6 +1,5 @@
 -- How long the line of a track is, and the lines of all: they fit on the page that the program lends, so that by `printed` (page) all
 -- of them are written.
-use mathlib.Core.Bool.{true}
 use mathlib.Core.List.{List, [], ◌∷◌, ◌++◌}
 use Prim.Native.Nat.{ℕ, suc, ◌≤◌, ◌<◌}
 use native.Mathlib.Omega.{arith}
@@ -19,23 +18,26 @@ use Rattle.page_text.proofs.DecimalLaws.{decimal_width}
 use Rattle.image_statuses.proofs.Small.{one_digit}
 use Rattle.image_statuses.specs.Symbols.{symbol_of}
 use Rattle.image_statuses.proofs.SymbolLaws.{symbol-small}
+use Rattle.std.specs.Prelude.{Option}
 use Rattle.scan.specs.declared.BadSymbol.{BadSymbol}
 use Rattle.scan_symbols.proofs.Bounds.{Small}
 use Rattle.page_symbols.specs.Symbols.{behind_text}
 use Rattle.page_symbols.proofs.SymbolLengths.{behind-long}
+use Rattle.page_status.specs.Marks.{is_met}
 use Rattle.page_status.specs.Meanings.{legend_text}
 use Rattle.page_status.proofs.MeaningLengths.{legend_long}
+use Rattle.page_lines.specs.declared.Detail.TheVariants.{Status}
 use Rattle.page_lines.specs.Tally.{tally_text}
-use Rattle.page_track.specs.Tracks.{symbol_text, track_line, line_in, if_shown, track_text, lines_text, is_met, side_text}
+use Rattle.page_track.specs.Tracks.{symbol_text, track_line, line_in, if_shown, track_text, lines_text, side_text}
 use Rattle.page_lines.proofs.TallyLengths.{tally-long}
 
-symbol-long : (statuses : List ℕ) (bad : BadSymbol) → Small 524280 bad → Within 60 (symbol_text statuses bad)
+symbol-long : (statuses : List ℕ) (bad : Option BadSymbol) → Small 524280 bad → Within 60 (symbol_text statuses bad)
 unfolding all_of
 symbol-long statuses bad s =
     pick_ind (Within 60) (eqb (count_of 1 statuses) (length statuses)) [] (behind_text bad) (λ e. omega arith) (λ e. behind-long bad s)
 
-line_long : (track : ℕ) (statuses : List ℕ) (bad : BadSymbol) → track < 256 → length statuses ≤ 21 → ((j : ℕ) → get_or statuses j 0 < 10)
-    → Small 524280 bad → Within 260 (track_line track statuses bad)
+line_long : (track : ℕ) (statuses : List ℕ) (bad : Option BadSymbol) → track < 256 → length statuses ≤ 21
+    → ((j : ℕ) → get_or statuses j 0 < 10) → Small 524280 bad → Within 260 (track_line track statuses bad)
 unfolding track_line all_of
 line_long track statuses bad t few small s =
     simp length-append
@@ -43,12 +45,12 @@ line_long track statuses bad t few small s =
       arith,
       decimal_width 2 track (omega arith),
       pick_ind (Within 240) (any_nonzero statuses)
-          (tally_text true (ascii " reads") statuses ++ (symbol_text statuses bad ++ (ascii "\n" ∷ []))) (ascii " absent\n" ∷ [])
+          (tally_text Status (ascii " reads") statuses ++ (symbol_text statuses bad ++ (ascii "\n" ∷ []))) (ascii " absent\n" ∷ [])
           (λ e. omega (
             arith,
-            append-long (tally_text true (ascii " reads") statuses) (symbol_text statuses bad ++ (ascii "\n" ∷ [])),
+            append-long (tally_text Status (ascii " reads") statuses) (symbol_text statuses bad ++ (ascii "\n" ∷ [])),
             append-long (symbol_text statuses bad) (ascii "\n" ∷ []),
-            tally-long true statuses (λ a. small) few (ascii " reads"),
+            tally-long Status statuses (λ a. small) few (ascii " reads"),
             symbol-long statuses bad s,
           ))
           (λ e. omega arith),
@@ -74,7 +76,7 @@ unfolding side_text
 side_fits image =
     omega (
       arith,
-      append-long (lines_text image 42) (legend_text (is_met image 42)),
+      append-long (lines_text image 42) (legend_text (is_met (statuses_of image) 42)),
       together-long 260 (λ k. track_text image (suc k)) 42 (λ k h. track-long image (suc k) (omega arith)),
-      legend_long (is_met image 42),
+      legend_long (is_met (statuses_of image) 42),
     )

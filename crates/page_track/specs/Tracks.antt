@@ -1,28 +1,29 @@
 -- The line of a track, which says which of its sectors read; and the lines of all tracks of an image.
-use Rattle.std.specs.Prelude.{ℕ, zero, suc, Bool, true, false, ◌||◌, List, [], ◌∷◌, ◌++◌, eqb, length}
+use Rattle.std.specs.Prelude.{ℕ, suc, List, [], ◌∷◌, ◌++◌, eqb, length, Option}
 use Rattle.base.specs.Choice.{pick}
 use Rattle.base.specs.Bytes.{any_nonzero}
 use Rattle.base.specs.Lists.{count_of}
 use Rattle.page.specs.Wording.{number_text}
 use Rattle.base.specs.Words.{ascii}
 use Rattle.page.specs.Page.{Text, together}
-use Rattle.track_read.specs.Statuses.{was_said as is_among}
 use Rattle.scan.specs.declared.BadSymbol.{BadSymbol}
 use Rattle.image_statuses.specs.Statuses.{statuses_of, is_shown}
 use Rattle.image_statuses.specs.Symbols.{symbol_of}
+use Rattle.page_lines.specs.declared.Detail.TheVariants.{Status}
 use Rattle.page_lines.specs.Tally.{tally_text}
+use Rattle.page_status.specs.Marks.{is_met}
 use Rattle.page_status.specs.Meanings.{legend_text}
 use Rattle.page_symbols.specs.Symbols.{behind_text}
 
 -- the first bad symbol of a track is told where one of its sectors does not read
-abbrev pub symbol_text : List ℕ → BadSymbol → Text
+abbrev pub symbol_text : List ℕ → Option BadSymbol → Text
 symbol_text statuses bad = pick (eqb (count_of 1 statuses) (length statuses)) [] (behind_text bad)
 
 -- the line of a track, by its statuses and its first bad symbol
-unfoldable pub track_line : ℕ → List ℕ → BadSymbol → Text
+unfoldable pub track_line : ℕ → List ℕ → Option BadSymbol → Text
 track_line track statuses bad =
     ascii "track" ∷ number_text track
-    ∷ pick (any_nonzero statuses) (tally_text true (ascii " reads") statuses ++ (symbol_text statuses bad ++ (ascii "\n" ∷ [])))
+    ∷ pick (any_nonzero statuses) (tally_text Status (ascii " reads") statuses ++ (symbol_text statuses bad ++ (ascii "\n" ∷ [])))
     (ascii " absent\n" ∷ [])
 
 -- that of a track of an image
@@ -40,11 +41,6 @@ track_text image track = if_shown (line_in image) track (statuses_of image track
 abbrev pub lines_text : List ℕ → ℕ → Text
 lines_text image n = together n (λ k. track_text image (suc k))
 
--- is a status met on one of the first n tracks?
-unfoldable pub is_met : List ℕ → ℕ → ℕ → Bool
-is_met image zero status = false
-is_met image (suc k) status = is_among status (statuses_of image (suc k)) || is_met image k status
-
 -- the lines of all tracks, and behind them what each number that was met means
 unfoldable pub side_text : List ℕ → Text
-side_text image = lines_text image 42 ++ legend_text (is_met image 42)
+side_text image = lines_text image 42 ++ legend_text (is_met (statuses_of image) 42)

@@ -1,20 +1,21 @@
 -- Clearing an image of any medium as the code does it: a law for each way out.
-use mathlib.Core.Path.{◌≡◌, refl, ap, ap₂, ◌∙◌}
+use mathlib.Core.Path.{◌≡◌, refl, ap, ◌∙◌}
 use mathlib.Core.Bool.{Bool, true, false}
 use mathlib.Core.List.{List}
 use Prim.Native.Nat.{ℕ, zero, suc, ◌+◌, ◌*◌, ◌-◌, ◌≤◌, ◌<◌}
 use native.Mathlib.Omega.{arith}
 use lib.ListN.{length, take, drop}
 use Rattle.base.specs.Choice.{pick}
-use Rattle.base.specs.Refusals.{no_directory, wrong_link}
+use Rattle.base.specs.Refusals.{no_directory}
 use Rattle.base.specs.Bytes.{any_nonzero}
 use Rattle.geometry.specs.Zones.{sectors_of}
 use Rattle.geometry.specs.D64.{d64_place}
 use Rattle.geometry.proofs.ZoneLaws.{sectors_of_lem}
 use Rattle.base.specs.declared.Sector.{Sector}
 use Rattle.sector.specs.Rules.{unique, consistent}
-use Rattle.image_rings.specs.declared.Place.{Place}
-use Rattle.image_rings.specs.declared.Table.{Table}
+use Rattle.std.specs.Prelude.{Ok, Err}
+use Rattle.base.specs.declared.Refusal.{Refusal}
+use Rattle.image_rings.specs.declared.Rings.{Rings}
 use Rattle.image_rings.specs.Rings.{ring_place}
 use Rattle.image_d64.specs.D64.{d64_sector}
 use Rattle.image_d64.proofs.D64Reads.{sector_in_lem, sector_out}
@@ -23,21 +24,14 @@ use Rattle.image_kind.specs.declared.Kind.TheVariants.{D64, G64, Nib, Unknown}
 use Rattle.image_sector.specs.Media.{Medium, d64_medium, rings_medium, no_medium, medium_of, medium_at}
 use Rattle.reclaim_directory.specs.declared.Chain.{Chain}
 use Rattle.reclaim.specs.declared.Counts.{Counts}
-use Rattle.reclaim.specs.declared.Outcome.TheVariants.{Cleared}
 use Rattle.reclaim_directory.specs.Disk.{disk1541, links_up_to, bam_sector}
 use Rattle.reclaim_directory.specs.Inside.{free_by}
 use Rattle.reclaim_directory.specs.Chains.{chain_of}
+use Rattle.reclaim_directory.proofs.ChainSteps.{chain_err}
 use Rattle.reclaim.specs.Clearing.{Work, has_data, at_turn, clear_sector, sectors_done, tracks_done, answer}
 use Rattle.reclaim.specs.Clearing.{untouched, refuse, finish, clearing}
 use Rattle.reclaim.specs.Counting.{count_on, count_to}
 use Rattle.reclaim.specs.Inside.{work}
-
--- has a sector data
-pub unreadable : (found : Sector) → found.ok ≡ false → false ≡ has_data found
-unreadable found o = rw o
-
-pub by_bytes : (found : Sector) → found.ok ≡ true → any_nonzero found.bytes ≡ has_data found
-by_bytes found o = rw o
 
 -- has a sector of a D64 image data: p is its place
 module _ (l : List ℕ) (t s p : ℕ) (e : p ≡ d64_place t s) where
@@ -46,11 +40,6 @@ module _ (l : List ℕ) (t s p : ℕ) (e : p ≡ d64_place t s) where
 
   pub block_missing : length l < p + 256 → false ≡ has_data (d64_sector l t s)
   block_missing h = ap has_data (sector_out l t s p e h)
-
--- has a sector data, where the medium of the image is known to be D64
-pub data_as : (place : Place) (l : List ℕ) (t s n : ℕ) (kind : Kind) → kind ≡ D64 n → (r : Bool) → r ≡ has_data (d64_sector l t s)
-    → r ≡ has_data ((medium_at kind place).read l t s)
-data_as place l t s n kind e r q = rw e q
 
 -- a sector at its turn
 module _ (medium : Medium) (to_clear : ℕ → ℕ → Bool) (t s : ℕ) (l : List ℕ) (c : Counts) where
@@ -70,14 +59,14 @@ module _ (medium : Medium) (to_clear : ℕ → ℕ → Bool) (t s : ℕ) (l : Li
     turn_changed h m z = rw (f, rw q at h, z)
 
 -- the sectors of a track, by the medium on that track and by the table
-module _ (table : Table) (t : ℕ) where
+module _ (rings : Rings) (t : ℕ) where
   pub sectors-there : (kind : Kind) (free : ℕ → ℕ → Bool) (n : ℕ) (w : Work)
-      → sectors_done (medium_at kind (ring_place table t)) free t n w ≡ sectors_done (medium_of kind table) free t n w
+      → sectors_done (medium_at kind (ring_place rings t)) free t n w ≡ sectors_done (medium_of kind rings) free t n w
   unfolding sectors_done clear_sector at_turn
   sectors-there kind free zero w = refl
   sectors-there (D64 m) free (suc n) w = ap (clear_sector d64_medium free t n) (sectors-there (D64 m) free n w)
-  sectors-there G64 free (suc n) w = ap (clear_sector (rings_medium unique table) free t n) (sectors-there G64 free n w)
-  sectors-there Nib free (suc n) w = ap (clear_sector (rings_medium consistent table) free t n) (sectors-there Nib free n w)
+  sectors-there G64 free (suc n) w = ap (clear_sector (rings_medium unique rings) free t n) (sectors-there G64 free n w)
+  sectors-there Nib free (suc n) w = ap (clear_sector (rings_medium consistent rings) free t n) (sectors-there Nib free n w)
   sectors-there Unknown free (suc n) w = ap (clear_sector no_medium free t n) (sectors-there Unknown free n w)
 
 -- no more are counted than there are sectors
@@ -101,16 +90,16 @@ module _ (medium : Medium) (n : ℕ) (l : List ℕ) (b : Sector) (q : b ≡ bam_
   unfolding clearing
   no_bam o = rw (← q, o)
 
-  module _ (o : b.ok ≡ true) (k : Chain) (r : k ≡ chain_of (links_up_to n disk1541) (medium.read l)) where
-    pub no_chain : k.ok ≡ false → refuse l wrong_link ≡ clearing medium (links_up_to n disk1541) l
+  module _ (o : b.ok ≡ true) where
+    pub no_chain : (why : Refusal) → chain_of (links_up_to n disk1541) (medium.read l) ≡ Err why
+        → answer l (Err why) ≡ clearing medium (links_up_to n disk1541) l
     unfolding clearing
-    no_chain p = rw (← q, o, ← r, p)
+    no_chain why p = rw (chain_err (links_up_to n disk1541) (medium.read l) why p) (rw (← q, o, p))
 
-    pub all_cleared : k.ok ≡ true → (m : List ℕ) (c : Counts)
+    pub all_cleared : (k : Chain) → chain_of (links_up_to n disk1541) (medium.read l) ≡ Ok k → (m : List ℕ) (c : Counts)
         → work m c ≡ tracks_done medium disk1541.sectors (free_by b.bytes k.marks) disk1541.last (untouched l)
-        → answer m (Cleared c.free c.changed) ≡ clearing medium (links_up_to n disk1541) l
+        → answer m (Ok c) ≡ clearing medium (links_up_to n disk1541) l
     unfolding clearing free_by
-    all_cleared p m c w =
-        rw (rw q at o, rw r at p)
-        (ap finish (w ∙ ap₂ (λ (x : Sector) (y : Chain). tracks_done medium disk1541.sectors (free_by x.bytes y.marks)
-        disk1541.last (untouched l)) q r))
+    all_cleared k p m c w =
+        rw (rw q at o, p)
+        (ap finish (w ∙ ap (λ (x : Sector). tracks_done medium disk1541.sectors (free_by x.bytes k.marks) disk1541.last (untouched l)) q))

@@ -1,15 +1,15 @@
 // What clearing keeps, 18/0 and the sectors of the directory chain; and which sectors the BAM then leaves to be cleared.
 ghost use Rattle.std.specs.Prelude.{◌≡◌, ◌+◌, ◌*◌, ◌-◌, ◌<◌, ◌≤◌, length};
 ghost use Rattle.image_d64.specs.D64.{OnTracks};
-ghost use Rattle.image_rings.specs.Rings.{rings};
 ghost use Rattle.image_sector.specs.Media.{medium_of};
 ghost use Rattle.image_sector.specs.Callers.{Complete};
 ghost use Rattle.reclaim_directory.specs.Marks.{mark_place};
 ghost use Rattle.reclaim_directory.specs.Disk.{is_address, entry_free, disk1541, links_up_to, bam_sector};
-ghost use Rattle.reclaim_directory.specs.Chains.{broken_chain, chain_at, chain_of};
+ghost use Rattle.reclaim_directory.specs.Chains.{chain_at, chain_of};
 ghost use Rattle.reclaim_directory.specs.Inside.{free_by};
 
-use image_kind::Kind;
+use base::Refusal;
+use image_sector::Layout;
 
 // The BAM has entries for tracks 1 to 35, from byte 4 of 18/0 on.
 const FIRST_ENTRY: usize = 4;
@@ -19,22 +19,16 @@ const FIRST_TRACK: u8 = 1;
 // The sectors that clearing keeps: 882 marks, 21 for each of 42 tracks, and the length of the directory chain.
 #[derive(Drop)]
 pub struct Chain {
-    pub ok: bool,
     pub length: usize,
     pub marks: [bool; 882],
 }
 
 // Is this an address on a disk with that highest track?
+#[tactic(auto, using(std::proofs::lemmas::Bool::Decides::nat_tests), unfolding(crate::specs::Disk::is_address))]
 fn is_address(track: u8, sector: u8, highest: u8) -> bool
     ensures { result ≡ is_address (links_up_to highest disk1541) track sector }
 {
-    if track < 1 {
-        return false;
-    }
-    if highest < track {
-        return false;
-    }
-    sector < geometry::sectors_per_track(track)
+    0 < track && track <= highest && sector < geometry::sectors_per_track(track)
 }
 
 fn mark_place(track: u8, sector: u8) -> usize
@@ -44,32 +38,19 @@ fn mark_place(track: u8, sector: u8) -> usize
     (track as usize - 1) * 21 + sector as usize
 }
 
-fn broken_chain() -> Chain
-    ensures { result ≡ broken_chain disk1541.marks }
-{
-    Chain {
-        ok: false,
-        length: 0,
-        marks: [false; 882],
-    }
-}
-
 // The chain of an image from an address on, with the marks at first.
 fn follow(
     image: &[u8],
-    kind: Kind,
-    starts: &[usize; 84],
-    lengths: &[usize; 84],
-    highest: u8,
+    layout: &Layout,
     first: [bool; 882],
     first_track: u8,
     first_sector: u8,
-) -> Chain
-    requires highest_bound { highest ≤ 42 }
-    requires complete { Complete kind (rings starts.now lengths.now) (length image.now) }
+) -> Result<Chain, Refusal>
+    requires highest_bound { layout.now.highest ≤ 42 }
+    requires complete { Complete layout.now (length image.now) }
     ensures { result
-        ≡ chain_at (links_up_to highest disk1541)
-        ((medium_of kind (rings starts.now lengths.now)).read image.now)
+        ≡ chain_at (links_up_to layout.now.highest disk1541)
+        ((medium_of layout.now.kind layout.now.rings).read image.now)
         first 0 first_track first_sector }
 {
     let mut marks = first;
@@ -77,54 +58,43 @@ fn follow(
     let mut track = first_track;
     let mut sector = first_sector;
     while track != 0 {
-        if !is_address(track, sector, highest) {
-            return broken_chain();
+        if !is_address(track, sector, layout.highest) {
+            return Err(Refusal::WrongLink);
         }
         let at = mark_place(track, sector);
         if marks[at] {
-            return broken_chain();
+            return Err(Refusal::WrongLink);
         }
         marks[at] = true;
-        let found = image_sector::read_sector(image, kind, starts, lengths, track, sector);
+        let found = layout.read(image, track, sector);
         if !found.ok {
-            return broken_chain();
+            return Err(Refusal::WrongLink);
         }
         n += 1;
         track = found.bytes[0];
         sector = found.bytes[1];
     }
-    Chain {
-        ok: true,
-        length: n,
-        marks,
-    }
+    Ok(Chain { length: n, marks })
 }
 
-// The directory chain of an image, whose 18/0 has been read; it is marked too.
-pub fn directory_chain(
-    image: &[u8],
-    kind: Kind,
-    starts: &[usize; 84],
-    lengths: &[usize; 84],
-    highest: u8,
-    bam: &[u8; 256],
-) -> Chain
-    requires highest_bound { highest ≤ 42 }
-    requires complete { Complete kind (rings starts.now lengths.now) (length image.now) }
-    requires bam_value { bam.now ≡ (bam_sector ((medium_of kind (rings starts.now lengths.now)).read image.now)).bytes }
+// The directory chain of an image, whose 18/0 has been read; it is marked too. A wrong link is refusal 6.
+pub fn directory_chain(image: &[u8], layout: &Layout, bam: &[u8; 256]) -> Result<Chain, Refusal>
+    requires highest_bound { layout.now.highest ≤ 42 }
+    requires complete { Complete layout.now (length image.now) }
+    requires bam_value { bam.now ≡ (bam_sector ((medium_of layout.now.kind layout.now.rings).read image.now)).bytes }
     ensures { result
-        ≡ chain_of (links_up_to highest disk1541)
-        ((medium_of kind (rings starts.now lengths.now)).read image.now) }
+        ≡ chain_of (links_up_to layout.now.highest disk1541)
+        ((medium_of layout.now.kind layout.now.rings).read image.now) }
 {
     let track = bam[0];
     let sector = bam[1];
-    if !is_address(track, sector, highest) {
-        return broken_chain();
+    if !is_address(track, sector, layout.highest) {
+        return Err(Refusal::WrongLink);
     }
     let mut marks = [false; 882];
     let at = mark_place(18, 0);
     marks[at] = true;
-    follow(image, kind, starts, lengths, highest, marks, track, sector)
+    follow(image, layout, marks, track, sector)
 }
 
 // Is a sector free by the BAM? The entry of track `first` is at `place`; its count byte is passed over.

@@ -3,8 +3,6 @@ ghost use Rattle.std.specs.Prelude.{◌≤◌, length};
 
 use crate::rows::Row;
 use crate::{rows, says};
-use nib_slots::Zone;
-use nib_write::Encoded;
 use replay_shared::sum;
 use std::io;
 use std::io::Write;
@@ -21,7 +19,7 @@ pub fn span<W: Write>(out: &mut W, window: &[u8], row: Row) -> io::Result<()> {
     says::end(out)
 }
 
-#[derive(Drop)]
+#[derive(Clone, Copy)]
 struct Slots {
     present: u64,
     total: u32,
@@ -31,10 +29,7 @@ struct Slots {
 fn mix_slot(so_far: Slots, file: &[u8], slot: usize) -> Slots {
     let zone = nib_slots::nib_zone(file, slot);
     let ring = nib_slots::nib_ring(file, slot);
-    let z = match zone {
-        Zone::Is(z) => z,
-        Zone::Refused(_) => 0,
-    };
+    let z = zone.unwrap_or(0);
     let here = if ring.len() == 0 { 0 } else { 1 };
     Slots {
         present: std::num::wrapping_add_u64(so_far.present, here),
@@ -59,8 +54,8 @@ fn all_slots(file: &[u8]) -> Slots {
 fn tell_slots<W: Write>(out: &mut W, file: &[u8]) -> io::Result<()> {
     let zone = nib_slots::nib_zone(file, 0);
     match zone {
-        Zone::Refused(n) => says::refused(out, n),
-        Zone::Is(_) => {
+        Err(why) => says::refused(out, why),
+        Ok(_) => {
             let slots = all_slots(file);
             says::number(out, b"slots", slots.present)?;
             says::checksum(out, slots.total)
@@ -77,8 +72,8 @@ pub fn whole<W: Write>(out: &mut W, file: &[u8]) -> io::Result<()> {
 fn tell_slot<W: Write>(out: &mut W, file: &[u8], slot: usize) -> io::Result<()> {
     let zone = nib_slots::nib_zone(file, slot);
     match zone {
-        Zone::Refused(n) => says::refused(out, n),
-        Zone::Is(z) => {
+        Err(why) => says::refused(out, why),
+        Ok(z) => {
             let ring = nib_slots::nib_ring(file, slot);
             says::number(out, b"zone", z as u64)?;
             says::number(out, b" length", ring.len() as u64)?;
@@ -104,15 +99,8 @@ fn length_of(part: &[u8]) -> u64 {
 fn read_lengths(lengths: &mut [u64], source: &[u8])
     requires { length lengths.old ≤ 100 }
 {
-    for i in 0..lengths.len() {
-        lengths[i] = length_of(rows::part(source, LENGTHS + 4 * i, 4));
-    }
-}
-
-fn tell_encoded<W: Write>(out: &mut W, answer: Encoded) -> io::Result<()> {
-    match answer {
-        Encoded::Written(n) => says::number(out, b"encoded", n as u64),
-        Encoded::Refused(n) => says::refused(out, n),
+    for (i, length) in lengths.iter_mut().enumerate() {
+        *length = length_of(rows::part(source, LENGTHS + 4 * i, 4));
     }
 }
 
@@ -125,7 +113,11 @@ fn encode_into<W: Write>(
 ) -> io::Result<()> {
     let zones = rows::part(source, ZONES, row.f as usize);
     let rings = rows::part(source, row.c as usize, row.d as usize);
-    tell_encoded(out, nib_write::encode_nib(lengths, zones, rings, room))?;
+    says::answered(
+        out,
+        b"encoded",
+        nib_write::encode_nib(lengths, zones, rings, room),
+    )?;
     says::sum_of(out, room)?;
     says::end(out)
 }

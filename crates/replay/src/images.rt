@@ -1,11 +1,12 @@
 // Images of the three kinds, cleared.
 use crate::rows::Row;
 use crate::says;
-use reclaim::Outcome;
+use base::Refusal;
+use reclaim::Counts;
 use std::io;
 use std::io::Write;
 
-fn cleared(image: &mut [u8], kind: u32) -> Outcome {
+fn cleared(image: &mut [u8], kind: u32) -> Result<Counts, Refusal> {
     match kind {
         0 => reclaim::clear_d64(image),
         1 => reclaim::clear_g64(image),
@@ -13,13 +14,13 @@ fn cleared(image: &mut [u8], kind: u32) -> Outcome {
     }
 }
 
-fn tell<W: Write>(out: &mut W, answer: Outcome) -> io::Result<()> {
+fn tell<W: Write>(out: &mut W, answer: Result<Counts, Refusal>) -> io::Result<()> {
     match answer {
-        Outcome::Cleared { free, changed } => {
-            says::number(out, b"free", free as u64)?;
-            says::number(out, b" changed", changed as u64)
+        Ok(counts) => {
+            says::number(out, b"free", counts.free as u64)?;
+            says::number(out, b" changed", counts.changed as u64)
         }
-        Outcome::Refused(n) => says::refused(out, n),
+        Err(why) => says::refused(out, why),
     }
 }
 

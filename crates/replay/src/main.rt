@@ -13,6 +13,7 @@ mod sectors;
 mod tracks;
 
 use rows::Row;
+use sector::Rule;
 use std::io;
 use std::io::{Read, Write};
 
@@ -22,8 +23,8 @@ fn ask<W: Write>(out: &mut W, part: &[u8], row: Row) -> io::Result<()> {
     match letter {
         b's' => tracks::scan(out, part, row),
         b'r' => tracks::read(out, part, row),
-        b'u' => sectors::read(out, part, row, true),
-        b'c' => sectors::read(out, part, row, false),
+        b'u' => sectors::read(out, part, row, Rule::Unique),
+        b'c' => sectors::read(out, part, row, Rule::Consistent),
         b'o' => captures::span(out, part, row),
         b'n' => captures::whole(out, part),
         b'w' => captures::one_slot(out, part, row),
@@ -40,14 +41,14 @@ fn turn_part<W: Write>(out: &mut W, part: &mut [u8], source: &[u8], row: Row) ->
             Ok(())
         }
         b'T' => {
-            tracks::build(part, source, row);
+            let _ = tracks::build(part, source, row);
             Ok(())
         }
         b'B' => tracks::build_and_tell(out, part, source, row),
         b'b' => blocks::encode(out, part, source, row),
         b'd' => blocks::decode(out, part, source, row),
-        b'U' => sectors::replace(out, part, source, row, true),
-        b'K' => sectors::replace(out, part, source, row, false),
+        b'U' => sectors::replace(out, part, source, row, Rule::Unique),
+        b'K' => sectors::replace(out, part, source, row, Rule::Consistent),
         b'e' => captures::encode(out, part, source, row),
         b'x' => images::clear(out, part, row),
         _ => ask(out, part, row),

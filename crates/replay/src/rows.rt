@@ -1,7 +1,7 @@
 // A row of the input, and the parts of a buffer that it names: compare/README.md.
 ghost use Rattle.std.specs.Prelude.{◌+◌, ◌≤◌, length};
 
-#[derive(Drop)]
+#[derive(Clone, Copy)]
 pub struct Row {
     pub letter: u8,
     pub a: u32,

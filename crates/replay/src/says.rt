@@ -1,4 +1,6 @@
 // A line of output, written piece by piece.
+use base::Refusal;
+use page::Page;
 use replay_shared::sum;
 use scan::BadSymbol;
 use std::io;
@@ -15,21 +17,40 @@ pub fn end<W: Write>(out: &mut W) -> io::Result<()> {
 // A word and a number.
 pub fn number<W: Write>(out: &mut W, word: &[u8], n: u64) -> io::Result<()> {
     let mut piece = [0u8; 32];
-    let at = page::words(&mut piece, 0, word);
-    let end = page::number(&mut piece, at, n);
-    words(out, page::so_far(&piece, end))
+    let mut page = Page::new(&mut piece);
+    page.counted(word, n);
+    words(out, page.written())
 }
 
-pub fn refused<W: Write>(out: &mut W, n: u8) -> io::Result<()> {
+// A refusal by its number.
+pub fn refused_by<W: Write>(out: &mut W, number: u8) -> io::Result<()> {
     let mut piece = [0u8; 32];
-    let end = page::refused(&mut piece, 0, n);
-    words(out, page::so_far(&piece, end))
+    let mut page = Page::new(&mut piece);
+    page.refused(number);
+    words(out, page.written())
+}
+
+pub fn refused<W: Write>(out: &mut W, why: Refusal) -> io::Result<()> {
+    refused_by(out, why.number())
+}
+
+// A word and the number that was answered, or the refusal.
+pub fn answered<W: Write>(
+    out: &mut W,
+    word: &[u8],
+    answer: Result<usize, Refusal>,
+) -> io::Result<()> {
+    match answer {
+        Ok(n) => number(out, word, n as u64),
+        Err(why) => refused(out, why),
+    }
 }
 
 pub fn checksum<W: Write>(out: &mut W, s: u32) -> io::Result<()> {
     let mut piece = [0u8; 32];
-    let end = page::sum(&mut piece, 0, s);
-    words(out, page::so_far(&piece, end))
+    let mut page = Page::new(&mut piece);
+    page.sum(s);
+    words(out, page.written())
 }
 
 fn symbol<W: Write>(out: &mut W, block: &[u8], index: usize, bit: usize) -> io::Result<()> {
@@ -39,11 +60,11 @@ fn symbol<W: Write>(out: &mut W, block: &[u8], index: usize, bit: usize) -> io::
 }
 
 // The first bad symbol, where there is one.
-pub fn bad<W: Write>(out: &mut W, met: BadSymbol) -> io::Result<()> {
+pub fn bad<W: Write>(out: &mut W, met: Option<BadSymbol>) -> io::Result<()> {
     match met {
-        BadSymbol::NoneMet => Ok(()),
-        BadSymbol::InHeader(k, bit) => symbol(out, b" header", k, bit),
-        BadSymbol::InData(k, bit) => symbol(out, b" data", k, bit),
+        None => Ok(()),
+        Some(BadSymbol::InHeader(k, bit)) => symbol(out, b" header", k, bit),
+        Some(BadSymbol::InData(k, bit)) => symbol(out, b" data", k, bit),
     }
 }
 

@@ -3,11 +3,11 @@ ghost use Rattle.std.specs.Prelude.{◌<◌, ◌≤◌};
 
 use crate::rows::Row;
 use crate::{rows, says};
+use base::Refusal;
 use replay_shared::sum;
 use scan::Scanned;
 use std::io;
 use std::io::Write;
-use track_build::Built;
 use track_read::TrackRead;
 
 // Where the codes stand in the source.
@@ -17,20 +17,13 @@ const CODES: usize = 0x33000;
 const MOST_RECORDS: usize = 195;
 
 // Row T.
-pub fn build(room: &mut [u8], source: &[u8], row: Row) -> Built {
+pub fn build(room: &mut [u8], source: &[u8], row: Row) -> Result<usize, Refusal> {
     let payloads = rows::part(source, row.d as usize, row.e as usize);
     let codes = rows::part(source, CODES, row.f as usize);
     let number = (row.c / 65536 % 256) as u8;
     let id1 = (row.c / 256 % 256) as u8;
     let id2 = (row.c % 256) as u8;
     track_build::build_track_with_errors(number, payloads, codes, id1, id2, room)
-}
-
-fn tell_built<W: Write>(out: &mut W, answer: Built) -> io::Result<()> {
-    match answer {
-        Built::Written(n) => says::number(out, b"built", n as u64),
-        Built::Refused(n) => says::refused(out, n),
-    }
 }
 
 // Row B.
@@ -40,15 +33,9 @@ pub fn build_and_tell<W: Write>(
     source: &[u8],
     row: Row,
 ) -> io::Result<()> {
-    tell_built(out, build(room, source, row))?;
+    says::answered(out, b"built", build(room, source, row))?;
     says::sum_of(out, room)?;
     says::end(out)
-}
-
-fn least(a: usize, b: usize) -> usize
-    ensures { result ≤ b }
-{
-    if a < b { a } else { b }
 }
 
 fn start_of(row: Row) -> usize {
@@ -56,7 +43,7 @@ fn start_of(row: Row) -> usize {
 }
 
 fn number_at(numbers: &[u64], at: usize) -> u64 {
-    if at < numbers.len() { numbers[at] } else { 0 }
+    numbers.get(at).copied().unwrap_or(0)
 }
 
 // The checksum with record i more: its sector, its place, its payload.
@@ -80,31 +67,31 @@ fn records_sum(numbers: &[u64], payloads: &[u8], n: usize) -> u32
 
 fn tell_records<W: Write>(
     out: &mut W,
-    answer: Scanned,
+    answer: Result<Scanned, Refusal>,
     numbers: &[u64],
     payloads: &[u8],
 ) -> io::Result<()> {
     match answer {
-        Scanned::Records(n, met) => {
-            says::number(out, b"records", n as u64)?;
-            says::bad(out, met)?;
-            says::checksum(out, records_sum(numbers, payloads, least(n, MOST_RECORDS)))
+        Ok(scanned) => {
+            says::number(out, b"records", scanned.records as u64)?;
+            says::bad(out, scanned.bad)?;
+            let rows = scanned.records.min(MOST_RECORDS);
+            says::checksum(out, records_sum(numbers, payloads, rows))
         }
-        Scanned::Refused(n) => says::refused(out, n),
+        Err(why) => says::refused(out, why),
     }
 }
 
 // As many rows are lent as the row says, with their payloads.
-fn scan_into(ring: &[u8], row: Row, numbers: &mut [u64], payloads: &mut [u8]) -> Scanned {
-    let lent = least(row.f as usize, MOST_RECORDS);
+fn scan_into(
+    ring: &[u8],
+    row: Row,
+    numbers: &mut [u64; 390],
+    payloads: &mut [u8; 49920],
+) -> Result<Scanned, Refusal> {
+    let lent = (row.f as usize).min(MOST_RECORDS);
     let n = 2 * lent;
     let bytes = 256 * lent;
-    if numbers.len() < n {
-        return Scanned::Refused(0);
-    }
-    if payloads.len() < bytes {
-        return Scanned::Refused(0);
-    }
     scan::scan_sector_records(
         ring,
         (row.c % 256) as u8,
@@ -133,19 +120,19 @@ fn tell_statuses<W: Write>(out: &mut W, statuses: &[u8]) -> io::Result<()> {
 
 fn tell_track<W: Write>(
     out: &mut W,
-    answer: TrackRead,
+    answer: Result<TrackRead, Refusal>,
     payloads: &[u8],
     statuses: &[u8],
 ) -> io::Result<()> {
     match answer {
-        TrackRead::Found(n, met) => {
-            says::number(out, b"found", n as u64)?;
+        Ok(read) => {
+            says::number(out, b"found", read.found as u64)?;
             says::words(out, b" status ")?;
             tell_statuses(out, statuses)?;
-            says::bad(out, met)?;
+            says::bad(out, read.bad)?;
             says::sum_of(out, payloads)
         }
-        TrackRead::Refused(n) => says::refused(out, n),
+        Err(why) => says::refused(out, why),
     }
 }
 

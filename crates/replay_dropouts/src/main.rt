@@ -6,10 +6,10 @@ ghost use Rattle.std.specs.Prelude.{◌≡◌, ◌*◌, ◌<◌, ◌≤◌};
 ghost use Rattle.geometry.specs.Zones.{zone_of, sectors_of, capacity_of, slot_start};
 ghost use Rattle.ring.specs.Stretch.{distance};
 
+use page::Page;
 use replay_shared::{draw, sum};
 use std::io;
 use std::io::Write;
-use track_read::TrackRead;
 
 // The error codes of a track's sectors.
 const CODES: [u8; 21] = [
@@ -204,10 +204,8 @@ fn tally(c: Counts, cut: Cut, payloads: &[u8], out: &[u8], statuses: &[u8]) -> C
     let count = sectors(cut.track);
     let told = page::so_far(statuses, count);
     let mut next = c;
-    for j in 0..count {
-        if j < told.len() {
-            next = counted(next, sector_fate(cut, j, payloads, out, told[j]));
-        }
+    for (j, status) in told.iter().enumerate() {
+        next = counted(next, sector_fate(cut, j, payloads, out, *status));
     }
     next.total = sum::mix_all(next.total, told);
     next.reads = more(next.reads, true);
@@ -235,8 +233,8 @@ fn one_read(c: Counts, cut: Cut, payloads: &[u8]) -> Counts
         &mut statuses,
     );
     match answer {
-        TrackRead::Found(_, _) => tally(c, cut, payloads, &out, &statuses),
-        TrackRead::Refused(_) => counted(c, Fate::Other),
+        Ok(_) => tally(c, cut, payloads, &out, &statuses),
+        Err(_) => counted(c, Fate::Other),
     }
 }
 
@@ -323,23 +321,17 @@ fn run(track: u8) -> Counts {
 fn show<W: Write>(out: &mut W, track: u8) -> io::Result<()> {
     let c = run(track);
     let mut line = [0u8; 256];
-    let mut at = page::words(&mut line, 0, b"track");
-    at = page::number(&mut line, at, track as u64);
-    at = page::words(&mut line, at, b" reads");
-    at = page::number(&mut line, at, c.reads);
-    at = page::words(&mut line, at, b" escaped");
-    at = page::number(&mut line, at, c.escaped);
-    at = page::words(&mut line, at, b" hit own");
-    at = page::number(&mut line, at, c.own);
-    at = page::words(&mut line, at, b" hit missing");
-    at = page::number(&mut line, at, c.missing);
-    at = page::words(&mut line, at, b" spoiled missing");
-    at = page::number(&mut line, at, c.spoiled);
-    at = page::words(&mut line, at, b" other");
-    at = page::number(&mut line, at, c.other);
-    at = page::sum(&mut line, at, c.total);
-    at = page::words(&mut line, at, b"\n");
-    out.write_all(page::so_far(&line, at))
+    let mut page = Page::new(&mut line);
+    page.counted(b"track", u64::from(track));
+    page.counted(b" reads", c.reads);
+    page.counted(b" escaped", c.escaped);
+    page.counted(b" hit own", c.own);
+    page.counted(b" hit missing", c.missing);
+    page.counted(b" spoiled missing", c.spoiled);
+    page.counted(b" other", c.other);
+    page.sum(c.total);
+    page.words(b"\n");
+    out.write_all(page.written())
 }
 
 fn main(rt: HostRuntime) -> io::Result<()> {

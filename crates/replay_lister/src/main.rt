@@ -2,10 +2,8 @@
 // compare/lister-lines, not from this program.
 #![tactic(auto)]
 
-use lister::Listed;
 use std::io;
 use std::io::Write;
-use track_build::Built;
 
 // The longest input, and one byte more.
 const ROOM: usize = 8203;
@@ -16,8 +14,8 @@ fn show<W: Write>(out: &mut W, name: &[u8], input: &[u8]) -> io::Result<()> {
     let mut listing = [0u8; lister::LONGEST_LISTING];
     let answer = lister::list_ring(input, &mut listing);
     match answer {
-        Listed::Written(n) => out.write_all(page::so_far(&listing, n)),
-        Listed::Refused(_) => out.write_all(b"no room\n"),
+        Ok(n) => out.write_all(page::so_far(&listing, n)),
+        Err(_) => out.write_all(b"no room\n"),
     }
 }
 
@@ -89,7 +87,7 @@ fn put_track(input: &mut [u8], h: Front, payloads: &[u8], codes: &[u8]) -> usize
         0x30,
         &mut input[10..],
     );
-    let Built::Written(n) = built else {
+    let Ok(n) = built else {
         return 0;
     };
     if n <= 8192 { n + 10 } else { 0 }

@@ -8,8 +8,7 @@ use mathlib.Core.Path.{◌≡◌, refl, sym, subst}
 use mathlib.Core.Logic.{inl, inr}
 use mathlib.Core.List.{List, [], ◌∷◌}
 use native.Mathlib.Omega.{arith}
-use Rattle.scan_sync.specs.declared.SyncEnd.{SyncEnd}
-use Rattle.scan_sync.specs.declared.SyncEnd.TheVariants.{At, Nothing}
+use Rattle.std.specs.Prelude.{Option, Some, None}
 use Rattle.scan.specs.declared.SectorRecord.{SectorRecord}
 use Rattle.scan_visit.specs.Visit.{visit}
 use Rattle.scan.specs.Scan.{next_sync, records_from}
@@ -36,7 +35,7 @@ module _ (x : ℕ → ℕ) (track end : ℕ) where
   pub each_far : (b : ℕ) → Every (λ r. b + 100 ≤ r.place) (records_from x track end b)
   each_far b = each_next (λ r. b + 100 ≤ r.place) b (λ c r l i. omega (arith, i.far))
 
-  pub each_past : (b h : ℕ) → next_sync x end b ≡ At h → Every (λ r. h + 90 ≤ r.place) (records_from x track end b)
+  pub each_past : (b h : ℕ) → next_sync x end b ≡ Some h → Every (λ r. h + 90 ≤ r.place) (records_from x track end b)
   each_past b h w =
       subst (Every (λ r. h + 90 ≤ r.place)) (sym (at-sync x track end b h w)) (by (step_of (visit x track h)) refl)
     where
@@ -54,15 +53,15 @@ any_every P Q (r ∷ rs) t (inl q) = (r, t.0, q)
 any_every P Q (r ∷ rs) t (inr a) = any_every P Q rs t.1 a
 
 module _ (x : ℕ → ℕ) (track end : ℕ) (P : SectorRecord → Type 0) (b : ℕ)
-    (one : (c h : ℕ) (r : SectorRecord) → b ≤ c → next_sync x end c ≡ At h → step_of (visit x track h) ≡ good r → P r) where
+    (one : (c h : ℕ) (r : SectorRecord) → b ≤ c → next_sync x end c ≡ Some h → step_of (visit x track h) ≡ good r → P r) where
   good_in : (n c : ℕ) → end ≤ n + c → b ≤ c → Every P (records_from x track end c)
   good_in zero c l m = subst (Every P) (sym (over x track end c (omega arith))) tt
   good_in (suc n) c l m = by (next_sync x end c) refl (λ d k q. good_in n d k q)
     where
-      by : (o : SyncEnd) → next_sync x end c ≡ o → ((d : ℕ) → end ≤ n + d → b ≤ d → Every P (records_from x track end d))
+      by : (o : Option ℕ) → next_sync x end c ≡ o → ((d : ℕ) → end ≤ n + d → b ≤ d → Every P (records_from x track end d))
           → Every P (records_from x track end c)
-      by Nothing e ih = subst (Every P) (sym (no_sync_lem x track end c e)) tt
-      by (At h) e ih = subst (Every P) (sym (at-sync x track end c h e)) (step (step_of (visit x track h)) refl)
+      by None e ih = subst (Every P) (sym (no_sync_lem x track end c e)) tt
+      by (Some h) e ih = subst (Every P) (sym (at-sync x track end c h e)) (step (step_of (visit x track h)) refl)
         where
           past : c + 10 ≤ h
           past = (next-found x end c h e).1.1

@@ -9,8 +9,7 @@ use mathlib.Core.List.{List, [], ◌∷◌}
 use Prim.Native.Nat.{ℕ, zero, suc, ◌+◌, ◌-◌, ◌≤◌, ◌<◌}
 use native.Mathlib.Omega.{arith}
 use native.Mathlib.Decide.{ℕ_discrete}
-use Rattle.scan_sync.specs.declared.SyncEnd.{SyncEnd}
-use Rattle.scan_sync.specs.declared.SyncEnd.TheVariants.{At, Nothing}
+use Rattle.std.specs.Prelude.{Option, Some, None}
 use Rattle.scan_sync.specs.Sync.{sync_end}
 use Rattle.scan_sync.proofs.SyncLaws.{SyncAt, SyncFound, sync_complete}
 use Rattle.scan_visit.specs.Visit.{Visit, visit, next_bit}
@@ -35,18 +34,18 @@ unfolding first_visits
 visits_every P x track e one zero b = tt
 visits_every P x track e one (suc f) b = go (next_sync x e b) refl (λ b'. visits_every P x track e one f b')
   where
-    go : (o : SyncEnd) → next_sync x e b ≡ o → ((b' : ℕ) → EveryVisit P (first_visits f x track e b'))
+    go : (o : Option ℕ) → next_sync x e b ≡ o → ((b' : ℕ) → EveryVisit P (first_visits f x track e b'))
         → EveryVisit P (onward (visit x track) (first_visits f x track e) o)
-    go Nothing w r = tt
-    go (At h) w r =
+    go None w r = tt
+    go (Some h) w r =
         let fd : SyncFound x b (b + (e + past_end - b)) h = (next-found x e b h w).1 in
         (one h (omega (arith, fd.1)) fd.0, r (next_bit (visit x track h)))
 
 -- a sync end ahead is found, or one before it
-ahead : (x : ℕ → ℕ) (e b q : ℕ) → SyncAt x q → b < e → b + 10 ≤ q → q < e + 16 → (h : ℕ) × (next_sync x e b ≡ At h) × (h ≤ q)
+ahead : (x : ℕ → ℕ) (e b q : ℕ) → SyncAt x q → b < e → b + 10 ≤ q → q < e + 16 → (h : ℕ) × (next_sync x e b ≡ Some h) × (h ≤ q)
 ahead x e b q sy be l m = go (sync_complete x 0 (e + past_end - b) b q sy (omega arith) (omega arith) (omega arith))
   where
-    go : (h : ℕ) × (sync_end x b (e + past_end - b) ≡ At h) × (h ≤ q) → (h : ℕ) × (next_sync x e b ≡ At h) × (h ≤ q)
+    go : (h : ℕ) × (sync_end x b (e + past_end - b) ≡ Some h) × (h ≤ q) → (h : ℕ) × (next_sync x e b ≡ Some h) × (h ≤ q)
     go (h, w, hq) = (h, next_yes x e b be ∙ w, hq)
 
 -- a scan that stands ten places or more before q, and is never led past that by a visit before q, visits q
@@ -57,7 +56,7 @@ visits_reach P x track e q sy qe pq on zero b l m = absurd (omega arith)
 visits_reach P x track e q sy qe pq on (suc f) b l m =
     go (ahead x e b q sy (omega arith) l (omega arith)) (λ b' l' m'. visits_reach P x track e q sy qe pq on f b' l' m')
   where
-    go : (h : ℕ) × (next_sync x e b ≡ At h) × (h ≤ q) → ((b' : ℕ) → b' + 10 ≤ q → e ≤ f + b' → AnyVisit P (first_visits f x track e b'))
+    go : (h : ℕ) × (next_sync x e b ≡ Some h) × (h ≤ q) → ((b' : ℕ) → b' + 10 ≤ q → e ≤ f + b' → AnyVisit P (first_visits f x track e b'))
         → AnyVisit P (first_visits (suc f) x track e b)
     go (h, w, hq) r = subst (AnyVisit P) (sym (visits-at x track e f b h w)) (here (ℕ_discrete h q))
       where
@@ -75,6 +74,6 @@ pub visits-some : (x : ℕ → ℕ) (track e b q : ℕ) → SyncAt x q → b < e
     → (h : ℕ) × (visits x track e b ≡ visit x track h ∷ visits x track e (next_bit (visit x track h)))
 visits-some x track e b q sy be l m = go (ahead x e b q sy be l m)
   where
-    go : (h : ℕ) × (next_sync x e b ≡ At h) × (h ≤ q)
+    go : (h : ℕ) × (next_sync x e b ≡ Some h) × (h ≤ q)
         → (h : ℕ) × (visits x track e b ≡ visit x track h ∷ visits x track e (next_bit (visit x track h)))
     go (h, w, hq) = (h, visits_turn x track e b h w)

@@ -7,11 +7,12 @@ use lib.ListN.{length, drop, length-append, length-drop}
 use lib.Seq.{sets}
 use Rattle.base.specs.Limits.{longest_ring}
 use Rattle.base.proofs.Stores.{put_many}
+use Rattle.std.specs.Prelude.{Option}
 use Rattle.ring.specs.Bit.{bits, bit_at}
 use Rattle.scan.specs.declared.SectorRecord.{SectorRecord}
 use Rattle.scan.specs.Scan.{records_from, records, most_records}
 use Rattle.scan.specs.declared.BadSymbol.{BadSymbol}
-use Rattle.scan.specs.declared.Scanned.TheVariants.{Records}
+use Rattle.scan.specs.declared.Scanned.{Scanned}
 use Rattle.scan.specs.BadSymbols.{bad_symbol}
 use Rattle.scan.specs.Answers.{flat, payloads_of}
 use Rattle.scan.specs.Inside.{Listed}
@@ -41,6 +42,9 @@ unfolding payloads_of
 payloads_snoc [] r = append-nil r.payload
 payloads_snoc (y ∷ rs) r = ap (λ (l : List ℕ). y.payload ++ l) (payloads_snoc rs r) ∙ sym (append_assoc y.payload (payloads_of rs)
     r.payload)
+
+abbrev found : ℕ → Option BadSymbol → Scanned
+found n bad = record { records = n; bad = bad }
 
 -- ---- n rows are laid out
 pub record Listing (ring : List ℕ) (track start : ℕ) (rows₀ payloads₀ rows payloads : List ℕ) (bit n : ℕ) : Type 0 where
@@ -111,12 +115,12 @@ module _ {ring : List ℕ} {track start : ℕ} {rows₀ payloads₀ rows payload
               ∙ ap₂ (λ (l : List ℕ) (y : ℕ). l ++ drop y payloads₀) (sym (payloads_snoc i.done r)) e;
         }
 
-  pub list_ends : (bad : BadSymbol) → records_from (bit_at ring) track (end_of ring start) bit ≡ [] → bad ≡ bad_symbol ring track start
-      → Listed (records ring track start) (bad_symbol ring track start) rows₀ payloads₀ rows payloads (Records n bad)
+  pub list_ends : (bad : Option BadSymbol) → records_from (bit_at ring) track (end_of ring start) bit ≡ [] → bad ≡ bad_symbol ring track start
+      → Listed (records ring track start) (bad_symbol ring track start) rows₀ payloads₀ rows payloads (found n bad)
   list_ends bad e met =
-      subst (λ (rs : List SectorRecord). Listed rs (bad_symbol ring track start) rows₀ payloads₀ rows payloads (Records n bad))
+      subst (λ (rs : List SectorRecord). Listed rs (bad_symbol ring track start) rows₀ payloads₀ rows payloads (found n bad))
       (all_passed i.passed e) (record {
-        told = ap₂ Records i.count met;
+        told = ap₂ found i.count met;
         laid = i.laid ∙ ap (λ (y : ℕ). flat i.done ++ drop (2 * y) rows₀) i.count;
         packed = i.packed ∙ ap (λ (y : ℕ). payloads_of i.done ++ drop (256 * y) payloads₀) i.count;
       })

@@ -3,17 +3,14 @@
 --     next-some, next-none    by the answer that `next_record` gives
 use Prim.Native.Nat.{ℕ, zero, suc, ◌+◌, ◌-◌, ◌*◌, ◌≤◌, ◌<◌}
 use mathlib.Core.Path.{◌≡◌, refl, sym, ap, ◌∙◌, subst}
-use mathlib.Core.Bool.{true, false}
 use mathlib.Core.List.{List, [], ◌∷◌}
 use native.Mathlib.Omega.{arith}
 use lib.ListN.{length, get_or}
 use Rattle.base.proofs.Lists.{length-tab, get_d_tab}
 use Rattle.geometry.specs.Zones.{sectors_of}
 use Rattle.gcr.proofs.DecodeLaws.{byte_at}
-use Rattle.scan_sync.specs.declared.SyncEnd.{SyncEnd}
-use Rattle.scan_sync.specs.declared.SyncEnd.TheVariants.{At, Nothing}
+use Rattle.std.specs.Prelude.{Option, Some, None}
 use Rattle.scan.specs.declared.SectorRecord.{SectorRecord}
-use Rattle.scan.specs.declared.NextRecord.{NextRecord}
 use Rattle.scan_visit.specs.Visit.{visit}
 use Rattle.scan.specs.Scan.{next_sync, records_of, records_from}
 use Rattle.scan.specs.Answers.{next_of}
@@ -40,17 +37,17 @@ module _ (x : ℕ → ℕ) (track end b : ℕ) where
   unfolding records_of
   over l = ap records_of (visits_end x track end (end - b) b l)
 
-  pub no_sync_lem : next_sync x end b ≡ Nothing → records_from x track end b ≡ []
+  pub no_sync_lem : next_sync x end b ≡ None → records_from x track end b ≡ []
   unfolding records_of
   no_sync_lem w = ap records_of (visits-none x track end (end - b) b w)
 
   -- a turn
-  pub at-sync : (h : ℕ) → next_sync x end b ≡ At h → records_from x track end b ≡ on_step (step_of (visit x track h)) (records_from x track end)
+  pub at-sync : (h : ℕ) → next_sync x end b ≡ Some h → records_from x track end b ≡ on_step (step_of (visit x track h)) (records_from x track end)
   unfolding records_of
   at-sync h w = ap records_of (visits_turn x track end b h w) ∙ one_step (visit x track h).place (visit x track h).found
       (records_from x track end)
 
-  pub is_next : (h : ℕ) (r : SectorRecord) → next_sync x end b ≡ At h → step_of (visit x track h) ≡ good r → NextIs x track end b r
+  pub is_next : (h : ℕ) (r : SectorRecord) → next_sync x end b ≡ Some h → step_of (visit x track h) ≡ good r → NextIs x track end b r
   is_next h r w g =
       let v : Good x track h r = visit-good x track h r g in
       record {
@@ -98,7 +95,7 @@ module _ (x : ℕ → ℕ) (track end : ℕ) where
       Next : Type 0
       Next = (m : ℕ) → end ≤ n + m → records_from x track end m ≡ r ∷ rs → NextIs x track end m r
 
-      step : (h : ℕ) → next_sync x end b ≡ At h → (v : Step) → step_of (visit x track h) ≡ v → Next → NextIs x track end b r
+      step : (h : ℕ) → next_sync x end b ≡ Some h → (v : Step) → step_of (visit x track h) ≡ v → Next → NextIs x track end b r
       step h w (skip m) g ih =
           let q : records_from x track end b ≡ records_from x track end m = at-sync x track end b h w ∙ ap
           (λ (v : Step). on_step v (records_from x track end)) g in
@@ -109,28 +106,24 @@ module _ (x : ℕ → ℕ) (track end : ℕ) where
           let q : s ∷ records_from x track end (s.place + 2600) ≡ r ∷ rs = sym i.left ∙ e in
           subst (NextIs x track end b) (cc) i
 
-      by : (o : SyncEnd) → next_sync x end b ≡ o → Next → NextIs x track end b r
-      by Nothing w ih = absurd (none-some (sym (no_sync_lem x track end b w) ∙ e))
-      by (At h) w ih = step h w (step_of (visit x track h)) refl ih
+      by : (o : Option ℕ) → next_sync x end b ≡ o → Next → NextIs x track end b r
+      by None w ih = absurd (none-some (sym (no_sync_lem x track end b w) ∙ e))
+      by (Some h) w ih = step h w (step_of (visit x track h)) refl ih
 
   pub first_is : (b : ℕ) (r : SectorRecord) (rs : List SectorRecord) → records_from x track end b ≡ r ∷ rs → NextIs x track end b r
   first_is b r rs e = head_in end b (omega arith) r rs e
 
   -- by the answer that `next_record` gives: a record and those after it, or none
-  module _ (b : ℕ) (o : NextRecord) (e : o ≡ next_of (records_from x track end b)) where
-    found_in : (rs : List SectorRecord) → o ≡ next_of rs → o.found ≡ (next_of rs).found
-    found_in rs q = ap (λ (y : NextRecord). y.found) q
+  pub next-some : (b : ℕ) (r : SectorRecord) → Some r ≡ next_of (records_from x track end b) → NextIs x track end b r
+  next-some b r e = by (records_from x track end b) refl e
+    where
+      by : (rs : List SectorRecord) → records_from x track end b ≡ rs → Some r ≡ next_of rs → NextIs x track end b r
+      by [] w q = absurd cc
+      by (s ∷ rs) w q = let same : s ≡ r = cc in subst (NextIs x track end b) same (first_is b s rs w)
 
-    pub next-some : o.found ≡ true → NextIs x track end b o.row
-    next-some t = by (records_from x track end b) refl e
-      where
-        by : (rs : List SectorRecord) → records_from x track end b ≡ rs → o ≡ next_of rs → NextIs x track end b o.row
-        by [] w q = absurd (let u : false ≡ true = sym (found_in [] q) ∙ t in let z : ◌≡◌ {A = ℕ} 0 1 = cc in omega arith)
-        by (r ∷ rs) w q = subst (NextIs x track end b) (sym (ap (λ (y : NextRecord). y.row) q)) (first_is b r rs w)
-
-    pub next-none : o.found ≡ false → records_from x track end b ≡ []
-    next-none t = by (records_from x track end b) e
-      where
-        by : (rs : List SectorRecord) → o ≡ next_of rs → rs ≡ []
-        by [] q = refl
-        by (r ∷ rs) q = absurd (let u : true ≡ false = sym (found_in (r ∷ rs) q) ∙ t in let z : ◌≡◌ {A = ℕ} 0 1 = cc in omega arith)
+  pub next-none : (b : ℕ) → None ≡ next_of (records_from x track end b) → records_from x track end b ≡ []
+  next-none b e = by (records_from x track end b) e
+    where
+      by : (rs : List SectorRecord) → None ≡ next_of rs → rs ≡ []
+      by [] q = refl
+      by (r ∷ rs) q = absurd cc

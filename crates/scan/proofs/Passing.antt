@@ -2,10 +2,11 @@
 use Prim.Native.Nat.{ℕ, ◌+◌, ◌%◌, ◌≤◌, ◌<◌}
 use mathlib.Core.Path.{◌≡◌, refl, sym, ap, ◌∙◌}
 use mathlib.Core.List.{List, [], ◌∷◌, ◌++◌, append_assoc, append-nil}
+use native.Mathlib.Nat.{mod-lt}
 use native.Mathlib.Omega.{arith}
 use lib.ListN.{length}
 use Rattle.base.specs.Limits.{longest_ring}
-use Rattle.ring.specs.Bit.{bits, bit_at}
+use Rattle.ring.specs.Bit.{IsRing, bits, bit_at}
 use Rattle.scan.specs.declared.SectorRecord.{SectorRecord}
 use Rattle.scan.specs.Scan.{records_from, records, most_records}
 use Rattle.scan.proofs.ScanLaws.{Every}
@@ -15,6 +16,12 @@ use Rattle.scan.proofs.Few.{few_left}
 -- the end of a scan of one revolution
 abbrev pub end_of : List ℕ → ℕ → ℕ
 end_of ring start = start % bits ring + bits ring
+
+pub begins_below : (ring : List ℕ) (start : ℕ) → IsRing ring → start % bits ring < bits ring
+begins_below ring start is = mod-lt start {m = bits ring} (omega (arith, is.some))
+
+pub end_small : (ring : List ℕ) (start : ℕ) → IsRing ring → end_of ring start ≤ 1048560
+end_small ring start is = omega (arith, begins_below ring start is, is.small)
 
 -- a record with a payload of 256 bytes
 abbrev pub Sized : SectorRecord → Type 0

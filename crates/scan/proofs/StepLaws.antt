@@ -12,8 +12,7 @@ use Rattle.base.specs.Lists.{xor_of}
 use Rattle.gcr.specs.Symbols.{Decoded, Bytes, IllegalAt}
 use Rattle.gcr.specs.Places.{decode_at}
 use Rattle.gcr.proofs.DecodeLaws.{byte_at}
-use Rattle.scan_sync.specs.declared.SyncEnd.{SyncEnd}
-use Rattle.scan_sync.specs.declared.SyncEnd.TheVariants.{At, Nothing}
+use Rattle.std.specs.Prelude.{Option, Some, None}
 use Rattle.scan_sync.specs.Sync.{sync_end}
 use Rattle.scan_visit.specs.Visit.{DataFound, BadData, AnotherHeader, GoodData, HeaderFound, BadHeader, TrueHeader, Visit}
 use Rattle.scan_visit.specs.Visit.{OtherMarker, FalseData}
@@ -43,7 +42,7 @@ module _ (x : ℕ → ℕ) (track h : ℕ) where
   -- a visit that gives a record
   pub record Good (r : SectorRecord) : Type 0 where
     pub header : Header x track h
-    pub searched : sync_end x (h + 80) 768 ≡ At r.place
+    pub searched : sync_end x (h + 80) 768 ≡ Some r.place
     pub sector : r.sector ≡ byte_at x h 2
     pub block : Data x r.place
     pub payload : r.payload ≡ payload_at x r.place
@@ -52,7 +51,7 @@ module _ (x : ℕ → ℕ) (track h : ℕ) where
   unfolding visit data_at
   visit-good r e = by (by_header track (data_for x h) (decode_at x h 8)) refl e
     where
-      by_mark : Header x track h → (s d : ℕ) → s ≡ byte_at x h 2 → sync_end x (h + 80) 768 ≡ At d → (m : Bool)
+      by_mark : Header x track h → (s d : ℕ) → s ≡ byte_at x h 2 → sync_end x (h + 80) 768 ≡ Some d → (m : Bool)
           → step_data h s (pick m (AnotherHeader d) (by_data d (decode_at x d 260))) ≡ good r → Good r
       by_mark hd s d es w true e = absurd (let z : ◌≡◌ {A = ℕ} 0 1 = cc in omega arith)
       by_mark hd s d es w false e = by_data_lem (by_data d (decode_at x d 260)) refl e
@@ -66,16 +65,16 @@ module _ (x : ℕ → ℕ) (track h : ℕ) where
               let qd : d ≡ r.place = sym t.1 ∙ ap (λ (y : SectorRecord). y.place) q in
               record {
                 header = hd;
-                searched = w ∙ ap At qd;
+                searched = w ∙ ap Some qd;
                 sector = sym (ap (λ (y : SectorRecord). y.sector) q) ∙ es;
                 block = subst (Data x) qd t.0;
                 payload = sym (ap (λ (y : SectorRecord). y.payload) q) ∙ t.2 ∙ ap (payload_at x) qd;
               }
 
-      by_sync_lem : Header x track h → (s : ℕ) → s ≡ byte_at x h 2 → (o : SyncEnd) → sync_end x (h + 80) 768 ≡ o → step_data h s (by_sync x o) ≡
+      by_sync_lem : Header x track h → (s : ℕ) → s ≡ byte_at x h 2 → (o : Option ℕ) → sync_end x (h + 80) 768 ≡ o → step_data h s (by_sync x o) ≡
           good r → Good r
-      by_sync_lem hd s es Nothing w e = absurd (let z : ◌≡◌ {A = ℕ} 0 1 = cc in omega arith)
-      by_sync_lem hd s es (At d) w e = by_mark hd s d es w (header_mark (decode_at x d 4)) e
+      by_sync_lem hd s es None w e = absurd (let z : ◌≡◌ {A = ℕ} 0 1 = cc in omega arith)
+      by_sync_lem hd s es (Some d) w e = by_mark hd s d es w (header_mark (decode_at x d 4)) e
 
       by : (o : HeaderFound) → by_header track (data_for x h) (decode_at x h 8) ≡ o → step_header h o ≡ good r → Good r
       by (BadHeader fault) w e = absurd (let z : ◌≡◌ {A = ℕ} 0 1 = cc in omega arith)
@@ -86,7 +85,7 @@ module _ (x : ℕ → ℕ) (track h : ℕ) where
   -- a visit that gives none: on from the next place, or from a header's mark where the data block was looked for
   pub record Led (b d : ℕ) : Type 0 where
     pub header : Header x track h
-    pub searched : sync_end x (h + 80) 768 ≡ At d
+    pub searched : sync_end x (h + 80) 768 ≡ Some d
     pub mark : Mark x d
     pub next : b ≡ d + 1
 
@@ -107,15 +106,15 @@ module _ (x : ℕ → ℕ) (track h : ℕ) where
           tests true false e = inl (cc)
           tests false u e = inl (cc)
 
-      by_mark : Header x track h → (s d : ℕ) → sync_end x (h + 80) 768 ≡ At d → (m : Bool) → header_mark (decode_at x d 4) ≡ m
+      by_mark : Header x track h → (s d : ℕ) → sync_end x (h + 80) 768 ≡ Some d → (m : Bool) → header_mark (decode_at x d 4) ≡ m
           → step_data h s (pick m (AnotherHeader d) (by_data d (decode_at x d 260))) ≡ skip b → (b ≡ h + 1) ⊎ ((d : ℕ) × Led b d)
       by_mark hd s d w true v e = inr (d, record { header = hd; searched = w; mark = mark→ x d v; next = (cc) })
       by_mark hd s d w false v e = by_data_lem d s (decode_at x d 260) e
 
-      by_sync_lem : Header x track h → (s : ℕ) → (o : SyncEnd) → sync_end x (h + 80) 768 ≡ o → step_data h s (by_sync x o) ≡ skip b →
+      by_sync_lem : Header x track h → (s : ℕ) → (o : Option ℕ) → sync_end x (h + 80) 768 ≡ o → step_data h s (by_sync x o) ≡ skip b →
           (b ≡ h + 1) ⊎ ((d : ℕ) × Led b d)
-      by_sync_lem hd s Nothing w e = inl (cc)
-      by_sync_lem hd s (At d) w e = by_mark hd s d w (header_mark (decode_at x d 4)) refl e
+      by_sync_lem hd s None w e = inl (cc)
+      by_sync_lem hd s (Some d) w e = by_mark hd s d w (header_mark (decode_at x d 4)) refl e
 
       by : (o : HeaderFound) → by_header track (data_for x h) (decode_at x h 8) ≡ o → step_header h o ≡ skip b → (b ≡ h + 1) ⊎
           ((d : ℕ) × Led b d)
@@ -125,11 +124,11 @@ module _ (x : ℕ → ℕ) (track h : ℕ) where
           by_sync_lem t.0 s (sync_end x (h + 80) 768) refl (ap (step_data h s) (sym t.2) ∙ e)
 
   -- a visit to a good header with a good data block
-  pub visit_yes : (d : ℕ) → Header x track h → sync_end x (h + 80) 768 ≡ At d → Data x d
+  pub visit_yes : (d : ℕ) → Header x track h → sync_end x (h + 80) 768 ≡ Some d → Data x d
       → step_of (visit x track h) ≡ good (a_record (byte_at x h 2) d (payload_at x d))
   unfolding visit data_at
   visit_yes d hr e dr =
       ap (step_header h) (header← x track h (data_for x h) hr)
-      ∙ ap (λ (o : SyncEnd). step_data h (byte_at x h 2) (by_sync x o)) e
+      ∙ ap (λ (o : Option ℕ). step_data h (byte_at x h 2) (by_sync x o)) e
       ∙ ap (λ (m : Bool). step_data h (byte_at x h 2) (pick m (AnotherHeader d) (by_data d (decode_at x d 260)))) (no_mark x d dr.mark)
       ∙ ap (step_data h (byte_at x h 2)) (data← x d dr)

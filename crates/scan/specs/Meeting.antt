@@ -1,37 +1,32 @@
 -- A visit as the code answers it: both verdicts, where the scan goes on, and the record or the bad symbol that was met.
-use Rattle.std.specs.Prelude.{ℕ, ◌+◌, Bool, true, false, List, replicate}
+use Rattle.std.specs.Prelude.{ℕ, ◌+◌, List, Option, Some, None}
 use Rattle.geometry.specs.Blocks.{block_bits}
-use Rattle.scan_sync.specs.declared.SyncEnd.{SyncEnd}
-use Rattle.scan_sync.specs.declared.SyncEnd.TheVariants.{At, Nothing}
 use Rattle.scan_visit.specs.declared.HeaderAt.{HeaderAt}
 use Rattle.scan_visit.specs.declared.HeaderAt.TheVariants.{Illegal, No, FalseSum, Sector}
 use Rattle.scan_visit.specs.declared.DataAt.{DataAt}
 use Rattle.scan_visit.specs.declared.DataAt.TheVariants.{Nowhere, IllegalIn, OtherMark, WrongSum, Another, Good}
-use Rattle.scan_visit.specs.declared.Visited.{Visited}
 use Rattle.scan_visit.specs.Visit.{visit}
-use Rattle.scan_visit.specs.Answers.{a_block, Met, met, a_visit, visit_answer}
-use Rattle.scan.specs.declared.NextPlace.{NextPlace}
-use Rattle.scan.specs.declared.NextVisit.{NextVisit}
+use Rattle.scan_visit.specs.Answers.{Met, a_visit, visit_answer}
+use Rattle.scan.specs.declared.RecordAt.{RecordAt}
+use Rattle.scan.specs.declared.Visit.{Visit}
 use Rattle.scan.specs.declared.BadSymbol.{BadSymbol}
-use Rattle.scan.specs.declared.BadSymbol.TheVariants.{NoneMet, InHeader, InData}
+use Rattle.scan.specs.declared.BadSymbol.TheVariants.{InHeader, InData}
 use Rattle.scan.specs.BadSymbols.{symbol_bit}
 
--- the next visit, if there is one: its place, both verdicts, and the payload
+-- a visit with the payload beside it: its place, both verdicts, and the payload
 pub record VisitMet : Type 0 where
-  pub found : Bool
   pub place : ℕ
   pub met : Met
 
-abbrev pub visit_with : NextVisit → List ℕ → VisitMet
-visit_with next payload = record { found = next.found; place = next.place; met = a_visit next.met payload }
-
-abbrev pub no_visit : VisitMet
-no_visit = record { found = false; place = 0; met = met No (a_block Nowhere (replicate 256 0)) }
+-- the next visit, if there is one, with the payload that is stored
+abbrev pub visit_with : Option Visit → List ℕ → Option VisitMet
+visit_with None payload = None
+visit_with (Some v) payload = Some (record { place = v.place; met = a_visit v.met payload })
 
 -- the visit to the next sync end
-abbrev pub visit_at : (ℕ → ℕ) → ℕ → SyncEnd → VisitMet
-visit_at x track Nothing = no_visit
-visit_at x track (At h) = record { found = true; place = h; met = visit_answer (visit x track h).found }
+abbrev pub visit_at : (ℕ → ℕ) → ℕ → Option ℕ → Option VisitMet
+visit_at x track None = None
+visit_at x track (Some h) = Some (record { place = h; met = visit_answer (visit x track h).found })
 
 -- the place that a data verdict names, and where the scan goes on after a visit to place h
 abbrev pub place_in : DataAt → ℕ
@@ -58,16 +53,13 @@ sector_in (FalseSum sector) = 0
 sector_in (Sector sector id1 id2) = sector
 
 -- the record that was met, if there is one
-abbrev pub no_place : NextPlace
-no_place = record { found = false; sector = 0; place = 0 }
-
-abbrev pub place_met : HeaderAt → DataAt → NextPlace
-place_met header Nowhere = no_place
-place_met header (IllegalIn d k) = no_place
-place_met header (OtherMark d) = no_place
-place_met header (WrongSum d) = no_place
-place_met header (Another d) = no_place
-place_met header (Good d) = record { found = true; sector = sector_in header; place = d }
+abbrev pub place_met : HeaderAt → DataAt → Option RecordAt
+place_met header Nowhere = None
+place_met header (IllegalIn d k) = None
+place_met header (OtherMark d) = None
+place_met header (WrongSum d) = None
+place_met header (Another d) = None
+place_met header (Good d) = Some (record { sector = sector_in header; place = d })
 
 -- the index that a data verdict names, and the bad symbol that was met on a visit to place h, on a ring of n bits
 abbrev pub index_in : DataAt → ℕ
@@ -78,16 +70,16 @@ index_in (WrongSum d) = 0
 index_in (Another d) = 0
 index_in (Good d) = 0
 
-abbrev pub bad_behind : ℕ → DataAt → BadSymbol
-bad_behind n Nowhere = NoneMet
-bad_behind n (IllegalIn d k) = InData k (symbol_bit n d k)
-bad_behind n (OtherMark d) = NoneMet
-bad_behind n (WrongSum d) = NoneMet
-bad_behind n (Another d) = NoneMet
-bad_behind n (Good d) = NoneMet
+abbrev pub bad_behind : ℕ → DataAt → Option BadSymbol
+bad_behind n Nowhere = None
+bad_behind n (IllegalIn d k) = Some (InData k (symbol_bit n d k))
+bad_behind n (OtherMark d) = None
+bad_behind n (WrongSum d) = None
+bad_behind n (Another d) = None
+bad_behind n (Good d) = None
 
-abbrev pub bad_met : ℕ → ℕ → HeaderAt → DataAt → BadSymbol
-bad_met n h (Illegal k) found = InHeader k (symbol_bit n h k)
-bad_met n h No found = NoneMet
-bad_met n h (FalseSum sector) found = NoneMet
+abbrev pub bad_met : ℕ → ℕ → HeaderAt → DataAt → Option BadSymbol
+bad_met n h (Illegal k) found = Some (InHeader k (symbol_bit n h k))
+bad_met n h No found = None
+bad_met n h (FalseSum sector) found = None
 bad_met n h (Sector sector id1 id2) found = bad_behind n found

@@ -1,64 +1,56 @@
 -- Record n of a scan, by the rows that it fills and the answer that it gives.
-use Prim.Native.Nat.{ℕ, zero, suc, ◌<◌}
+use Prim.Native.Nat.{ℕ, ◌-◌, ◌≤◌}
 use mathlib.Core.Path.{◌≡◌, refl, sym, ap, ◌∙◌}
-use mathlib.Core.Bool.{Bool, true, false}
-use mathlib.Core.List.{List, [], ◌∷◌, ◌++◌}
-use lib.Dec.{eqb, ltb}
-use lib.ListN.{length, get_or, drop, length-append}
+use mathlib.Core.List.{List}
+use lib.ListN.{length, take}
 use native.Mathlib.Omega.{arith}
-use Rattle.base.specs.Choice.{pick}
-use Rattle.base.proofs.Tests.{ltb_yes, leb_yes, lt_of}
-use Rattle.base.proofs.Refusing.{unless_by}
+use Rattle.std.specs.Prelude.{Option, Ok, Err}
+use Rattle.std.proofs.Math.Seq.{take-append_seam}
+use Rattle.base.specs.Answers.{answer}
+use Rattle.base.specs.declared.Refusal.{Refusal}
+use Rattle.base.proofs.Tests.{leb_yes}
+use Rattle.base.proofs.Answering.{answer-ok, answer-value, answer-err}
+use Rattle.ring.specs.Bit.{ring_refusal}
+use Rattle.ring.proofs.RingRefusals.{is_ring}
 use Rattle.scan.specs.declared.SectorRecord.{SectorRecord}
-use Rattle.scan.specs.declared.BadSymbol.{BadSymbol}
-use Rattle.scan.specs.declared.Scanned.TheVariants.{Records, Refused}
-use Rattle.base.specs.Refusals.{unless}
-use Rattle.scan.specs.Scan.{zero_record, records, most_records}
-use Rattle.scan.specs.BadSymbols.{bad_symbol}
-use Rattle.scan.specs.Answers.{scan_refusal}
-use Rattle.scan_rows.specs.Rows.{laid, refused_row, row_at}
-use Rattle.scan_rows.specs.Answers.{rows_refusal, scanned_into, rows_after, nth_record}
-use Rattle.scan_rows.specs.Inside.{of_scan}
-use Rattle.scan_rows.proofs.Refusing.{answer_by_lem, rows_by}
+use Rattle.scan.specs.declared.Scanned.{Scanned}
+use Rattle.scan.specs.Scan.{records, most_records}
+use Rattle.scan.proofs.Few.{few_records}
+use Rattle.scan_rows.specs.Rows.{laid, row_at}
+use Rattle.scan_rows.specs.Answers.{rows_refusal, found_in, scanned_into, rows_after, nth_record}
 
--- ---- a row of what was laid
-in_front : (rs ys : List SectorRecord) (n : ℕ) (d : SectorRecord) → n < length rs → get_or (rs ++ ys) n d ≡ get_or rs n d
-in_front [] ys n d h = absurd (omega arith)
-in_front (r ∷ rs) ys zero d h = refl
-in_front (r ∷ rs) ys (suc n) d h = in_front rs ys n d (omega arith)
+module _ (ring : List ℕ) (track start : ℕ) (ys : List SectorRecord) (long : length ys ≡ most_records) where
+  number_is : rows_refusal ring ys ≡ ring_refusal (length ring)
+  number_is = rw (leb_yes most_records (length ys) (omega (arith, long))) refl
 
-row_laid : (rs ys : List SectorRecord) (n : ℕ) (bad : BadSymbol)
-    → of_scan (row_at (laid rs ys) n) n (Records (length rs) bad) ≡ row_at rs n
-row_laid rs ys n bad = by (ltb n (length rs)) refl
-  where
-    by : (t : Bool) → ltb n (length rs) ≡ t → of_scan (row_at (laid rs ys) n) n (Records (length rs) bad) ≡ row_at rs n
-    by true e = rw (
-      e,
-      ltb_yes n (length (laid rs ys)) (omega (arith, lt_of n (length rs) e, length-append rs (drop (length rs) ys))),
-      in_front rs (drop (length rs) ys) n zero_record (lt_of n (length rs) e),
-    )
-    by false e = rw e
+  -- refused
+  pub nth_refused : (why : Refusal) → Err why ≡ scanned_into ring track start ys → (n : ℕ) → Err why ≡ nth_record ring track start n
+  unfolding scanned_into nth_record
+  nth_refused why e n =
+      sym (answer-err (rows_refusal ring ys) (found_in ring track start) (row_at (records ring track start) n) why (sym e))
+      ∙ ap (λ (k : ℕ). answer k (row_at (records ring track start) n)) number_is
 
--- ---- a scan into as many rows as there can be records
-module _ (ring : List ℕ) (track start : ℕ) (ys : List SectorRecord) (e : length ys ≡ most_records) where
-  abbrev number : ℕ
-  number = rows_refusal ring ys
+  module _ (found : Scanned) (e : Ok found ≡ scanned_into ring track start ys) where
+    none : ring_refusal (length ring) ≡ 0
+    unfolding scanned_into
+    none = sym number_is ∙ answer-ok (rows_refusal ring ys) (found_in ring track start) found (sym e)
 
-  by_number : (n : ℕ) → nth_record ring track start n ≡ pick (eqb number 0) (row_at (records ring track start) n) (refused_row number)
-  unfolding nth_record
-  by_number n =
-      let roomy = sym (leb_yes most_records (length ys) (omega (arith, e))) in
-      ap (λ (k : ℕ). unless k refused_row (row_at (records ring track start) n)) (ap (λ (t : Bool). scan_refusal t (length ring)) roomy)
-      ∙ unless_by number refused_row (row_at (records ring track start) n)
+    count_is : found.records ≡ length (records ring track start)
+    unfolding scanned_into
+    count_is = sym (ap (λ (s : Scanned). s.records) (answer-value (rows_refusal ring ys) (found_in ring track start) found (sym e)))
 
-  -- row n of the rows that it leaves, by its answer
-  pub nth : (n : ℕ)
-      → of_scan (row_at (rows_after ring track start ys) n) n (scanned_into ring track start ys) ≡ nth_record ring track start n
-  nth n = rw (answer_by_lem ring track start ys, rows_by ring track start ys, by_number n) (by (eqb number 0))
-    where
-      by : (t : Bool)
-          → of_scan (row_at (pick t (laid (records ring track start) ys) ys) n) n
-          (pick t (Records (length (records ring track start)) (bad_symbol ring track start)) (Refused number))
-          ≡ pick t (row_at (records ring track start) n) (refused_row number)
-      by true = row_laid (records ring track start) ys n (bad_symbol ring track start)
-      by false = refl
+    -- there are as many rows
+    pub nth_inside : found.records ≤ most_records
+    nth_inside = omega (arith, count_is, few_records ring track start (is_ring ring none).small)
+
+    rows_are : rows_after ring track start ys ≡ laid (records ring track start) ys
+    unfolding rows_after
+    rows_are = rw (number_is, none) refl
+
+    -- row n of the first rows, as many as there are records
+    pub nth_found : (zs : List SectorRecord) → zs ≡ rows_after ring track start ys → (n : ℕ) {row : Option SectorRecord}
+        → row ≡ row_at (take (found.records - 0) zs) n → Ok row ≡ nth_record ring track start n
+    unfolding nth_record
+    nth_found zs z n e =
+        let count : found.records - 0 ≡ length (records ring track start) = omega (arith, count_is) in
+        rw (e, z, rows_are, count, take-append_seam, none) refl

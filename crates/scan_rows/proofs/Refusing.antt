@@ -1,54 +1,48 @@
--- The refusals of a scan into rows, by the number that tells them; 0 tells that there is none.
-use Prim.Native.Nat.{ℕ}
-use mathlib.Core.Path.{◌≡◌, sym, ap, ◌∙◌}
-use mathlib.Core.Logic.{◌≢◌}
-use mathlib.Core.Bool.{Bool}
+-- The refusals of a scan into rows: what is answered and left where there is one, and where there is none.
+use Prim.Native.Nat.{ℕ, ◌≤◌}
+use mathlib.Core.Path.{◌≡◌, refl, sym}
+use mathlib.Core.Bool.{Bool, true, false}
 use mathlib.Core.List.{List}
-use lib.Dec.{eqb}
+use lib.Dec.{leb}
+use Rattle.std.proofs.lemmas.Bool.{leb-true}
 use lib.ListN.{length}
-use Rattle.base.specs.Choice.{pick}
-use Rattle.base.proofs.Tests.{eqb_yes, eqb_no}
-use Rattle.base.proofs.Refusing.{unless_by}
+use Rattle.std.specs.Prelude.{Result, Ok, Err}
+use Rattle.base.specs.Answers.{answer}
+use Rattle.base.specs.declared.Refusal.{Refusal}
+use Rattle.base.proofs.Answering.{answer-ok, answer-err, unless-err}
 use Rattle.scan.specs.declared.SectorRecord.{SectorRecord}
 use Rattle.scan.specs.declared.Scanned.{Scanned}
-use Rattle.scan.specs.declared.Scanned.TheVariants.{Records, Refused}
-use Rattle.scan.specs.Scan.{records}
-use Rattle.scan.specs.BadSymbols.{bad_symbol}
+use Rattle.ring.specs.Bit.{IsRing}
+use Rattle.ring.proofs.RingRefusals.{is_ring}
+use Rattle.scan.specs.Scan.{records, most_records}
+use Rattle.scan.specs.Answers.{scan_refusal}
 use Rattle.scan_rows.specs.Rows.{laid}
-use Rattle.scan_rows.specs.Answers.{rows_refusal, scanned_into, rows_after}
+use Rattle.scan_rows.specs.Answers.{rows_refusal, found_in, scanned_into, rows_after}
+
+abbrev pub checked : ℕ → Result (Unit {0}) Refusal
+checked n = answer n tt
 
 module _ (ring : List ℕ) (track start : ℕ) (rows : List SectorRecord) where
-  abbrev number : ℕ
-  number = rows_refusal ring rows
+  abbrev RowsOut : Result Scanned Refusal → List SectorRecord → Type 0
+  RowsOut r zs = (r ≡ scanned_into ring track start rows) × (zs ≡ rows_after ring track start rows)
 
-  -- ---- the answer and the rows afterwards
-  pub answer_by_lem : scanned_into ring track start rows
-      ≡ pick (eqb number 0) (Records (length (records ring track start)) (bad_symbol ring track start)) (Refused number)
-  unfolding scanned_into
-  answer_by_lem = unless_by number Refused (Records (length (records ring track start)) (bad_symbol ring track start))
+  pub ring_of : (done : Unit {0}) → Ok done ≡ checked (rows_refusal ring rows)
+      → IsRing ring × (most_records ≤ length rows)
+  ring_of done e = by (leb most_records (length rows)) refl (answer-ok (rows_refusal ring rows) tt done (sym e))
+    where
+      by : (t : Bool) → leb most_records (length rows) ≡ t → scan_refusal t (length ring) ≡ 0
+          → IsRing ring × (most_records ≤ length rows)
+      by true q z = (is_ring ring z, leb-true most_records (length rows) q)
+      by false q z = absurd cc
 
-  pub rows_by : rows_after ring track start rows ≡ pick (eqb number 0) (laid (records ring track start) rows) rows
-  unfolding rows_after
-  rows_by = unless_by number (λ n. rows) (laid (records ring track start) rows)
+  pub rows_go : (done : Unit {0}) → Ok done ≡ checked (rows_refusal ring rows) → {r : Scanned} {zs : List SectorRecord}
+      → (r ≡ found_in ring track start) × (zs ≡ laid (records ring track start) rows) → RowsOut (Ok r) zs
+  unfolding scanned_into rows_after
+  rows_go done e h = let z = answer-ok (rows_refusal ring rows) tt done (sym e) in (rw (z, h.0) refl, rw (z, h.1) refl)
 
-  -- what a scan answers and leaves that is not refused, and one that is, by the number that `refusal` answers
-  pub rows_go : (k : ℕ) → k ≡ number → k ≡ 0 → {r : Scanned} {zs : List SectorRecord}
-      → (r ≡ Records (length (records ring track start)) (bad_symbol ring track start)) × (zs ≡ laid (records ring track start) rows)
-      → (r ≡ scanned_into ring track start rows) × (zs ≡ rows_after ring track start rows)
-  rows_go k e z h =
-      let t = sym (eqb_yes number 0 (sym e ∙ z)) in (
-        h.0
-            ∙ ap (λ (t : Bool). pick t (Records (length (records ring track start)) (bad_symbol ring track start)) (Refused number)) t
-            ∙ sym answer_by_lem,
-        h.1 ∙ ap (λ (t : Bool). pick t (laid (records ring track start) rows) rows) t ∙ sym rows_by,
-      )
-
-  pub rows_stay : (k : ℕ) → k ≡ number → k ≢ 0
-      → (Refused k ≡ scanned_into ring track start rows) × (rows ≡ rows_after ring track start rows)
-  rows_stay k e z =
-      let t = sym (eqb_no number 0 (λ n. z (e ∙ n))) in (
-        ap Refused e
-            ∙ ap (λ (t : Bool). pick t (Records (length (records ring track start)) (bad_symbol ring track start)) (Refused number)) t
-            ∙ sym answer_by_lem,
-        ap (λ (t : Bool). pick t (laid (records ring track start) rows) rows) t ∙ sym rows_by,
-      )
+  pub rows_stay : (why : Refusal) → Err why ≡ checked (rows_refusal ring rows) → RowsOut (Err why) rows
+  unfolding scanned_into rows_after
+  rows_stay why e = (
+    sym (answer-err (rows_refusal ring rows) tt _ why (sym e)),
+    sym (unless-err (rows_refusal ring rows) tt why _ _ (sym e)),
+  )

@@ -16,29 +16,28 @@ use Rattle.gcr.specs.Places.{decode_at}
 use Rattle.gcr.proofs.DecodeLaws.{decode_illegal}
 use Rattle.ring.specs.Bit.{IsRing, ring_refusal, bits, bit_at}
 use Rattle.ring.proofs.RingRefusals.{is_ring}
-use Rattle.scan_sync.specs.declared.SyncEnd.{SyncEnd}
-use Rattle.scan_sync.specs.declared.SyncEnd.TheVariants.{At, Nothing}
+use Rattle.std.specs.Prelude.{Option, Some, None}
+use Rattle.std.specs.Option.{option_or}
 use Rattle.scan_sync.specs.Sync.{sync_end}
 use Rattle.scan_visit.specs.Visit.{DataFound, BadData, AnotherHeader, GoodData, OtherMarker, FalseData}
 use Rattle.scan_visit.specs.Visit.{BadHeader, TrueHeader, NoHeader, FalseHeader, Visit}
 use Rattle.scan_visit.specs.Visit.{at, payload_in, by_data, header_mark, data_at, by_sync, data_for, true_sum, by_header, visit}
 use Rattle.scan.specs.declared.BadSymbol.{BadSymbol}
-use Rattle.scan.specs.declared.BadSymbol.TheVariants.{NoneMet, InHeader, InData}
+use Rattle.scan.specs.declared.BadSymbol.TheVariants.{InHeader, InData}
 use Rattle.scan.specs.Scan.{visits_of}
-use Rattle.scan.specs.BadSymbols.{bad_in_data, bad_at, or_else, first_bad, bad_symbol}
+use Rattle.scan.specs.BadSymbols.{bad_in_data, bad_at, first_bad, bad_symbol}
 use Rattle.scan.proofs.EachVisit.{EveryVisit, visits_every}
 use Rattle.scan_symbols.specs.First.{first_bad_of}
 
 -- on a ring of n bits
-abbrev pub Small : ℕ → BadSymbol → Type 0
-Small n NoneMet = Unit {0}
-Small n (InHeader k bit) = (k < 520) × (bit < n)
-Small n (InData k bit) = (k < 520) × (bit < n)
+abbrev pub Small : ℕ → Option BadSymbol → Type 0
+Small n None = Unit {0}
+Small n (Some (InHeader k bit)) = (k < 520) × (bit < n)
+Small n (Some (InData k bit)) = (k < 520) × (bit < n)
 
-either : (n : ℕ) (a b : BadSymbol) → Small n a → Small n b → Small n (or_else a b)
-either n NoneMet b s t = t
-either n (InHeader k bit) b s t = s
-either n (InData k bit) b s t = s
+either : (n : ℕ) (a b : Option BadSymbol) → Small n a → Small n b → Small n (option_or a b)
+either n None b s t = t
+either n (Some bad) b s t = s
 
 module _ (x : ℕ → ℕ) (n : ℕ) (some : 0 < n) where
   -- ---- a data block, by what stands at its place
@@ -63,9 +62,9 @@ module _ (x : ℕ → ℕ) (n : ℕ) (some : 0 < n) where
   search-small : (h : ℕ) → Small n (bad_in_data n (data_for x h))
   search-small h = by (sync_end x (h + 80) 768)
     where
-      by : (o : SyncEnd) → Small n (bad_in_data n (by_sync x o))
-      by Nothing = tt
-      by (At d) = data_small d
+      by : (o : Option ℕ) → Small n (bad_in_data n (by_sync x o))
+      by None = tt
+      by (Some d) = data_small d
 
   -- ---- a header, and the data search behind it
   header-small : (track h : ℕ) (f : DataFound) (o : Decoded) → decode_at x h 8 ≡ o → Small n (bad_in_data n f)
@@ -101,16 +100,16 @@ bad-small ring track start r =
     (start % n + n - start % n) (start % n))
 
 -- on a ring of any length
-wider : (m n : ℕ) (bad : BadSymbol) → m ≤ n → Small m bad → Small n bad
-wider m n NoneMet l s = tt
-wider m n (InHeader k bit) l s = (s.0, omega (arith, s.1))
-wider m n (InData k bit) l s = (s.0, omega (arith, s.1))
+wider : (m n : ℕ) (bad : Option BadSymbol) → m ≤ n → Small m bad → Small n bad
+wider m n None l s = tt
+wider m n (Some (InHeader k bit)) l s = (s.0, omega (arith, s.1))
+wider m n (Some (InData k bit)) l s = (s.0, omega (arith, s.1))
 
 pub of_small : (ring : List ℕ) (track start : ℕ) → Small 524280 (first_bad_of ring track start)
 unfolding first_bad_of
 of_small ring track start = by (ring_refusal (length ring)) refl
   where
-    by : (k : ℕ) → ring_refusal (length ring) ≡ k → Small 524280 (unless k (λ n. NoneMet) (bad_symbol ring track start))
+    by : (k : ℕ) → ring_refusal (length ring) ≡ k → Small 524280 (unless k (λ n. None) (bad_symbol ring track start))
     by zero e =
         let r = is_ring ring e in
         wider (bits ring) 524280 (bad_symbol ring track start) (omega (arith, r.small)) (bad-small ring track start r)

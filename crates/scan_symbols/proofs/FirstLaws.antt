@@ -1,45 +1,37 @@
--- The first bad symbol, by what the code tests.
-use Prim.Native.Nat.{ℕ}
-use mathlib.Core.Path.{◌≡◌, refl, sym, ◌∙◌, subst}
-use mathlib.Core.Logic.{◌≢◌}
+-- The first bad symbol of a ring, or of bytes that are none.
+use Prim.Native.Nat.{ℕ, zero, suc}
+use mathlib.Core.Path.{◌≡◌, refl, ap, sym, ◌∙◌}
 use mathlib.Core.Bool.{true, false}
 use mathlib.Core.List.{List}
-use native.Mathlib.Omega.{arith}
 use lib.ListN.{length}
-use Rattle.base.proofs.Refusing.{unless-some}
+use Rattle.std.specs.Prelude.{None, Result, is_err}
+use Rattle.base.specs.Answers.{answer}
+use Rattle.base.specs.declared.Refusal.{Refusal}
 use Rattle.ring.specs.Bit.{IsRing, ring_refusal}
-use Rattle.ring.proofs.RingRefusals.{no_refusal}
-use Rattle.scan.specs.declared.BadSymbol.{BadSymbol}
-use Rattle.scan.specs.declared.BadSymbol.TheVariants.{NoneMet, InHeader, InData}
-use Rattle.scan.specs.BadSymbols.{or_else, bad_symbol}
-use Rattle.scan.proofs.BadSoFar.{BadSoFar}
-use Rattle.scan_symbols.specs.First.{is_met, first_bad_of}
+use Rattle.base.specs.Refusals.{unless}
+use Rattle.ring.proofs.RingRefusals.{no_refusal, is_ring}
+use Rattle.scan.specs.BadSymbols.{bad_symbol}
+use Rattle.scan_symbols.specs.First.{first_bad_of}
 
--- ---- by the test of one
-pub met_stays : (bad other : BadSymbol) → is_met bad ≡ true → or_else bad other ≡ bad
-met_stays NoneMet other e = absurd (let z : ◌≡◌ {A = ℕ} 0 1 = cc in omega arith)
-met_stays (InHeader k bit) other e = refl
-met_stays (InData k bit) other e = refl
+abbrev checked : ℕ → Result (Unit {0}) Refusal
+checked n = answer n tt
 
-pub not-met : (bad : BadSymbol) → is_met bad ≡ false → bad ≡ NoneMet
-not-met NoneMet e = refl
-not-met (InHeader k bit) e = absurd (let z : ◌≡◌ {A = ℕ} 0 1 = cc in omega arith)
-not-met (InData k bit) e = absurd (let z : ◌≡◌ {A = ℕ} 0 1 = cc in omega arith)
-
--- ---- a scan that has met one, or none yet
-module _ {ring : List ℕ} {track end bit : ℕ} {whole bad : BadSymbol} (i : BadSoFar ring track end whole bad bit) where
-  pub found_it : is_met bad ≡ true → bad ≡ whole
-  found_it e = sym (met_stays bad _ e) ∙ i.all
-
-  pub none_yet : is_met bad ≡ false → BadSoFar ring track end whole NoneMet bit
-  none_yet e = subst (λ (y : BadSymbol). BadSoFar ring track end whole y bit) (not-met bad e) i
-
--- ---- a ring, or none
-module _ (ring : List ℕ) (track start : ℕ) where
-  pub no_ring_lem : (number : ℕ) → number ≡ ring_refusal (length ring) → number ≢ 0 → NoneMet ≡ first_bad_of ring track start
+module _ (ring : List ℕ) (track start : ℕ) (r : Result (Unit {0}) Refusal) (e : r ≡ checked (ring_refusal (length ring))) where
+  pub none_of_refused : is_err r ≡ true → None ≡ first_bad_of ring track start
   unfolding first_bad_of
-  no_ring_lem number e z = sym (unless-some _ number _ _ e z)
+  none_of_refused t = by (ring_refusal (length ring)) (sym (ap is_err e) ∙ t)
+    where
+      by : (k : ℕ) → is_err (checked k) ≡ true → None ≡ unless k (λ n. None) (bad_symbol ring track start)
+      by zero q = absurd cc
+      by (suc k) q = refl
 
-  pub of_ring : IsRing ring → bad_symbol ring track start ≡ first_bad_of ring track start
-  unfolding first_bad_of
-  of_ring h = rw (no_refusal ring h)
+  pub ring_of_checked : is_err r ≡ false → IsRing ring
+  ring_of_checked t = is_ring ring (by (ring_refusal (length ring)) (sym (ap is_err e) ∙ t))
+    where
+      by : (k : ℕ) → is_err (checked k) ≡ false → k ≡ 0
+      by zero q = refl
+      by (suc k) q = absurd cc
+
+pub of_ring : (ring : List ℕ) (track start : ℕ) → IsRing ring → bad_symbol ring track start ≡ first_bad_of ring track start
+unfolding first_bad_of
+of_ring ring track start h = rw (no_refusal ring h)

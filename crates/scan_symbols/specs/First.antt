@@ -1,17 +1,10 @@
 -- The first bad symbol of any bytes taken as a ring.
-use Rattle.std.specs.Prelude.{ℕ, Bool, true, false, List, length}
+use Rattle.std.specs.Prelude.{ℕ, List, length, Option, None}
 use Rattle.base.specs.Refusals.{unless}
 use Rattle.ring.specs.Bit.{ring_refusal}
 use Rattle.scan.specs.declared.BadSymbol.{BadSymbol}
-use Rattle.scan.specs.declared.BadSymbol.TheVariants.{NoneMet, InHeader, InData}
 use Rattle.scan.specs.BadSymbols.{bad_symbol}
 
--- is there one?
-abbrev pub is_met : BadSymbol → Bool
-is_met NoneMet = false
-is_met (InHeader k bit) = true
-is_met (InData k bit) = true
-
 -- that of a scan from a start bit, read as a track; none where there is no ring to scan, or it is too long
-unfoldable pub first_bad_of : List ℕ → ℕ → ℕ → BadSymbol
-first_bad_of ring track start = unless (ring_refusal (length ring)) (λ n. NoneMet) (bad_symbol ring track start)
+unfoldable pub first_bad_of : List ℕ → ℕ → ℕ → Option BadSymbol
+first_bad_of ring track start = unless (ring_refusal (length ring)) (λ n. None) (bad_symbol ring track start)

@@ -21,7 +21,7 @@ use Rattle.ring.specs.Bit.{bit_at}
 use Rattle.ring.proofs.RingLaws.{bit_lt}
 use Rattle.ring.proofs.WholeBytes.{byte_at}
 use Rattle.scan_sync.specs.declared.Chunk.{Chunk}
-use Rattle.scan_sync.specs.declared.SyncEnd.TheVariants.{At}
+use Rattle.std.specs.Prelude.{Some}
 use Rattle.scan_sync.specs.Sync.{run, sync_from}
 use Rattle.scan_sync.specs.Inside.{chunk_at}
 use Rattle.scan_sync.proofs.SyncLaws.{at-hit, at_reset, at_one, passed}
@@ -130,7 +130,7 @@ module _ (x : ℕ → ℕ) (b : ℕ) (small : b < 256) (p m c : ℕ) (is : (j : 
   zero-there : b ≢ 255 → x (p + front b) ≡ 0
   zero-there ne = let l : b < 255 = omega arith in is (front b) (front_lt b l) ∙ front_zero b l
 
-  byte_hit : b ≢ 255 → 10 ≤ c + front b → sync_from x (8 + m) p c ≡ At (p + front b)
+  byte_hit : b ≢ 255 → 10 ≤ c + front b → sync_from x (8 + m) p c ≡ Some (p + front b)
   byte_hit ne h = to_zero ne ∙ at-hit x (c + front b) (7 - front b + m) (p + front b) (zero-there ne) h
 
   byte_reset : b ≢ 255 → c + front b < 10 → sync_from x (8 + m) p c ≡ sync_from x m (p + 8) (back b)
@@ -184,17 +184,17 @@ module _ (x : ℕ → ℕ) (c n s off w b : ℕ) (ch : Chunked x (s + off) w b) 
       go (inl (f, is)) = subst (λ (v : ℕ). back b ≤ v) (sym f) (trailing_le 8 (255 - b))
       go (inr (f, is)) = subst (λ (v : ℕ). back v ≤ w) (sym (none ne is).1) (unfold count_trailing_zeros in omega arith)
 
-  pub chunk_hit : b ≢ 255 → 10 ≤ c + front b → sync_from x (n - off) (s + off) c ≡ At (s + off + front b)
+  pub chunk_hit : b ≢ 255 → 10 ≤ c + front b → sync_from x (n - off) (s + off) c ≡ Some (s + off + front b)
   chunk_hit ne h = rest ∙ go ch
     where
-      go : Chunked x (s + off) w b → sync_from x (w + (n - (off + w))) (s + off) c ≡ At (s + off + front b)
+      go : Chunked x (s + off) w b → sync_from x (w + (n - (off + w))) (s + off) c ≡ Some (s + off + front b)
       go (inl (f, is)) =
-          subst (λ (v : ℕ). sync_from x (v + (n - (off + w))) (s + off) c ≡ At (s + off + front b)) (sym f)
+          subst (λ (v : ℕ). sync_from x (v + (n - (off + w))) (s + off) c ≡ Some (s + off + front b)) (sym f)
           (byte_hit x b small (s + off) (n - (off + w)) c is ne h)
       go (inr (f, is)) =
           let z : front b ≡ 0 = unfold count_leading_zeros in ap front (none ne is).1 in
-          subst (λ (v : ℕ). sync_from x (v + (n - (off + w))) (s + off) c ≡ At (s + off + front b)) (sym f)
-          (more x (n - (off + w)) (s + off) c ∙ at-hit x c (n - (off + w)) (s + off) (none ne is).0 (omega arith) ∙ ap At (omega arith))
+          subst (λ (v : ℕ). sync_from x (v + (n - (off + w))) (s + off) c ≡ Some (s + off + front b)) (sym f)
+          (more x (n - (off + w)) (s + off) c ∙ at-hit x c (n - (off + w)) (s + off) (none ne is).0 (omega arith) ∙ ap Some (omega arith))
 
   pub chunk_reset : b ≢ 255 → c + front b < 10 → sync_from x (n - off) (s + off) c ≡ sync_from x (n - (off + w)) (s + (off + w)) (back b)
   chunk_reset ne h = rest ∙ go ch ∙ onward (back b)
@@ -257,3 +257,28 @@ module _ (r : List ℕ) (p at left : ℕ) (e : at ≡ p % (8 * length r)) (pos :
       go (yes z) (yes l) = let a = eqb_yes (at % 8) 0 z in let b = leb_yes 8 left l in rw (a, b) (by_byte z l)
       go (yes z) (no l) = let a = eqb_yes (at % 8) 0 z in let b = leb_no 8 left (omega arith) in rw (a, b) by_bit
       go (no z) d = let a = eqb_no (at % 8) 0 z in rw a by_bit
+
+-- ---- a step of the search: the chunk that it takes at `off` places from `start`, with what its first zero and last ones are below
+pub record Step (r : List ℕ) (start limit off at w b : ℕ) : Type 0 where
+  pub inside : off + w ≤ limit
+  pub some : 0 < w
+  pub fits : at + w ≤ 8 * length r
+  pub small : b < 256
+  pub chunked : Chunked (bit_at r) (start + off) w b
+  pub front_in : b ≢ 255 → front b < w
+  pub back_in : b ≢ 255 → back b ≤ w
+
+pub step : (r : List ℕ) (start limit off at : ℕ) → at ≡ (start + off) % (8 * length r) → 0 < length r → off < limit
+    → (k : Chunk) → k ≡ chunk_at (bit_at r) at (limit - off) → Step r start limit off at k.width k.bits
+step r start limit off at e pos l k f =
+    let c = chunk_is r (start + off) at (limit - off) e pos (omega arith) k f in
+    let i : off + k.width ≤ limit = omega (arith, c.within) in
+    record {
+      inside = i;
+      some = c.some;
+      fits = c.fits;
+      small = c.small;
+      chunked = c.chunked;
+      front_in = in_front (bit_at r) 0 limit start off _ _ c.chunked c.small i;
+      back_in = in_back (bit_at r) 0 limit start off _ _ c.chunked c.small i;
+    }

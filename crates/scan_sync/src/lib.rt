@@ -12,16 +12,9 @@ pub struct Chunk {
     pub bits: u8,
 }
 
-// Where a sync ends, if one does.
-#[derive(Drop)]
-pub enum SyncEnd {
-    At(usize),
-    Nothing,
-}
-
 // The first zero after at least ten ones, counted from `start`, among `limit` bits. A byte that has a zero before its last ones
 // can end a sync only at its first zero.
-pub fn find_sync_end(ring: &[u8], start: usize, limit: usize) -> SyncEnd
+pub fn find_sync_end(ring: &[u8], start: usize, limit: usize) -> Option<usize>
     requires ring { IsRing ring.now }
     requires limit_bound { start + limit < 2 ^ 64 }
     ensures { result ≡ sync_end (bit_at ring.now) start limit }
@@ -32,7 +25,7 @@ pub fn find_sync_end(ring: &[u8], start: usize, limit: usize) -> SyncEnd
     let mut offset: usize = 0;
     loop {
         if offset == limit {
-            break SyncEnd::Nothing;
+            break None;
         }
         let chunk = search::chunk_at(ring, at, limit - offset);
         let width = chunk.width;
@@ -42,7 +35,7 @@ pub fn find_sync_end(ring: &[u8], start: usize, limit: usize) -> SyncEnd
         } else {
             let front = u8::leading_zeros(!bits) as usize;
             if ones + front >= 10 {
-                break SyncEnd::At(start + offset + front);
+                break Some(start + offset + front);
             }
             ones = u8::trailing_zeros(!bits) as usize;
         }

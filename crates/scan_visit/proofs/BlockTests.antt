@@ -15,6 +15,9 @@ use Rattle.geometry.specs.Zones.{sectors_of}
 use Rattle.geometry.specs.Blocks.{header_sum}
 use Rattle.gcr.specs.Symbols.{Decoded, Bytes, IllegalAt}
 use Rattle.gcr.specs.Places.{decode_at}
+use Rattle.gcr.specs.Answers.{answer4}
+use Rattle.gcr.specs.declared.Illegal.{Illegal as BadSymbol}
+use Rattle.std.specs.Prelude.{Ok, Err}
 use Rattle.gcr.proofs.DecodeLaws.{decode_more, decode_stop}
 use Rattle.ring.specs.Bit.{bits, bit_at}
 use Rattle.gcr_blocks.specs.Answers.{is_readable, bytes_in}
@@ -25,8 +28,7 @@ use Rattle.scan_visit.specs.Visit.{DataFound, BadData, AnotherHeader, GoodData, 
 use Rattle.scan_visit.specs.Visit.{HeaderFound, BadHeader, TrueHeader, NoHeader, FalseHeader}
 use Rattle.scan_visit.specs.Visit.{at, payload_in, by_data, header_mark, data_at, data_for, true_sum, by_header, visit}
 use Rattle.scan_visit.specs.Answers.{header_answer, DataBlock, a_block, data_answer}
-use Rattle.scan_visit.specs.declared.Group.{Group}
-use Rattle.scan_visit.specs.Inside.{group_of, header_by, without_payload}
+use Rattle.scan_visit.specs.Inside.{header_by, without_payload}
 use Rattle.scan_visit.proofs.GroupLaws.{longer, at_place, read-bytes, read_illegal}
 
 -- ---- the header at h
@@ -55,25 +57,27 @@ module _ (x : ℕ → ℕ) (track h : ℕ) where
   header_illegal k e = sym (ap (λ (o : Decoded). header_answer (by_header track (data_for x h) o)) e)
 
 -- the header at bit s of byte i, by its two groups
-module _ (r : List ℕ) (track h i s : ℕ) (here : 8 * i + s ≡ h % bits r) (g : Group)
-    (e : g ≡ group_of (decode_at (bit_at r) (8 * i + s) 4)) where
-  pub first_illegal_lem : g.ok ≡ false → Illegal g.symbol ≡ header_answer (visit (bit_at r) track h).found
-  first_illegal_lem t =
-      header_illegal (bit_at r) track h g.symbol (longer (bit_at r) h 4 8 g.symbol (lit≤ tt) (read_illegal r i s h here g e t))
+module _ (r : List ℕ) (track h i s : ℕ) (here : 8 * i + s ≡ h % bits r) where
+  pub first_illegal_lem : (bad : BadSymbol) → Err bad ≡ answer4 (decode_at (bit_at r) (8 * i + s) 4)
+      → Illegal bad.index ≡ header_answer (visit (bit_at r) track h).found
+  first_illegal_lem bad e =
+      header_illegal (bit_at r) track h bad.index (longer (bit_at r) h 4 8 bad.index (lit≤ tt) (read_illegal r i s h here bad e))
 
-  module _ (t : g.ok ≡ true) (next : ℕ) (there : 8 * next + s ≡ (h + 40) % bits r) (g' : Group)
-      (e' : g' ≡ group_of (decode_at (bit_at r) (8 * next + s) 4)) where
-    pub second_illegal : g'.ok ≡ false → Illegal (8 + g'.symbol) ≡ header_answer (visit (bit_at r) track h).found
-    second_illegal t' =
-        header_illegal (bit_at r) track h (8 + g'.symbol)
-        (decode_stop (bit_at r) h 4 g.bytes (read-bytes r i s h here g e t) 4 g'.symbol 0
-        (read_illegal r next s (h + 40) there g' e' t'))
+  module _ (first : List ℕ) (e : Ok first ≡ answer4 (decode_at (bit_at r) (8 * i + s) 4)) (next : ℕ)
+      (there : 8 * next + s ≡ (h + 40) % bits r) where
+    pub second_illegal : (bad : BadSymbol) → Err bad ≡ answer4 (decode_at (bit_at r) (8 * next + s) 4)
+        → Illegal (8 + bad.index) ≡ header_answer (visit (bit_at r) track h).found
+    second_illegal bad e' =
+        header_illegal (bit_at r) track h (8 + bad.index)
+        (decode_stop (bit_at r) h 4 first (read-bytes r i s h here first e) 4 bad.index 0
+        (read_illegal r next s (h + 40) there bad e'))
 
-    pub both_groups : g'.ok ≡ true → header_by track (g.bytes ++ g'.bytes) ≡ header_answer (visit (bit_at r) track h).found
-    both_groups t' =
-        header-bytes (bit_at r) track h (g.bytes ++ g'.bytes)
-        (decode_more (bit_at r) h 4 g.bytes (read-bytes r i s h here g e t) 4 g'.bytes
-        (read-bytes r next s (h + 40) there g' e' t'))
+    pub both_groups : (second : List ℕ) → Ok second ≡ answer4 (decode_at (bit_at r) (8 * next + s) 4)
+        → header_by track (first ++ second) ≡ header_answer (visit (bit_at r) track h).found
+    both_groups second e' =
+        header-bytes (bit_at r) track h (first ++ second)
+        (decode_more (bit_at r) h 4 first (read-bytes r i s h here first e) 4 second
+        (read-bytes r next s (h + 40) there second e'))
 
 -- a header by the four bytes of its first group and those of its second, test by test
 module _ (track : ℕ) (a b : List ℕ) (four : length a ≡ 4) where

@@ -16,17 +16,18 @@ use Rattle.base.specs.Lists.{tab, xor_of}
 use Rattle.base.proofs.InRow.{sets_more}
 use Rattle.base.proofs.Lists.{length-tab}
 use Rattle.base.proofs.Xor.{xor_assoc, xor_of-append}
+use Rattle.std.specs.Prelude.{Result, Ok, Err, Some, None}
+use Rattle.std.specs.Result.{result_ok}
 use Rattle.gcr.specs.Symbols.{Decoded, Bytes, IllegalAt}
 use Rattle.gcr.specs.Places.{decode_at}
 use Rattle.gcr.specs.Answers.{answer4}
-use Rattle.gcr.specs.declared.Decoded4.{Decoded4}
+use Rattle.gcr.specs.declared.Illegal.{Illegal}
 use Rattle.gcr.proofs.AtPlaces.{decode_same}
 use Rattle.gcr.proofs.DecodeLaws.{decode_legal, decode_bytes, decode_illegal, illegal_decode, decode_more, decode_stop}
 use Rattle.gcr_blocks.specs.Answers.{is_readable, bytes_in}
 use Rattle.ring.specs.Bit.{bits, bit_at}
 use Rattle.ring.proofs.Words.{place-on, bit_round}
-use Rattle.scan_visit.specs.declared.Group.{Group}
-use Rattle.scan_visit.specs.Inside.{group_of, GroupsRead}
+use Rattle.scan_visit.specs.Inside.{groups_at, GroupsRead}
 
 pub never : false ≡ true → ⊥
 never t = let z : ◌≡◌ {A = ℕ} 0 1 = cc in omega arith
@@ -48,27 +49,28 @@ longer x p m n k l e =
     let q = decode_illegal x p m k e in
     illegal_decode x p n k (record { inside = omega (arith, q.inside); illegal = q.illegal; before = q.before })
 
-module _ (g : Group) where
-  pub group_bytes : (d : Decoded) → g ≡ group_of d → g.ok ≡ true → d ≡ Bytes g.bytes
-  unfolding group_of
-  group_bytes (Bytes b) e t = ap (λ (a : Group). Bytes a.bytes) (sym e)
-  group_bytes (IllegalAt k) e t = absurd (let f = sym t ∙ ap (λ (a : Group). a.ok) e in let z : ◌≡◌ {A = ℕ} 0 1 = cc in omega arith)
+pub group_bytes : (four : List ℕ) (d : Decoded) → Ok four ≡ answer4 d → d ≡ Bytes four
+unfolding answer4
+group_bytes four (Bytes b) e = cc
+group_bytes four (IllegalAt k) e = absurd cc
 
-  pub group_illegal : (d : Decoded) → g ≡ group_of d → g.ok ≡ false → d ≡ IllegalAt g.symbol
-  unfolding group_of
-  group_illegal (Bytes b) e t = absurd (let f = sym t ∙ ap (λ (a : Group). a.ok) e in let z : ◌≡◌ {A = ℕ} 0 1 = cc in omega arith)
-  group_illegal (IllegalAt k) e t = ap (λ (a : Group). IllegalAt a.symbol) (sym e)
+pub group_illegal : (bad : Illegal) (d : Decoded) → Err bad ≡ answer4 d → d ≡ IllegalAt bad.index
+unfolding answer4
+group_illegal bad (Bytes b) e = absurd cc
+group_illegal bad (IllegalAt k) e = let q : bad ≡ record { index = k } = cc in sym (ap (λ (y : Illegal). IllegalAt y.index) q)
+
+-- an answer without its index
+pub as_ok : (r : Result (List ℕ) Illegal) (four : List ℕ) → Some four ≡ result_ok r → Ok four ≡ r
+as_ok (Ok b) four e = cc
+as_ok (Err bad) four e = absurd cc
+
+pub as_err : (r : Result (List ℕ) Illegal) → None ≡ result_ok r → (bad : Illegal) × (Err bad ≡ r)
+as_err (Ok b) e = absurd cc
+as_err (Err bad) e = (bad, refl)
 
 -- the index is one of the group's
-pub index-small : (x : ℕ → ℕ) (p : ℕ) (g : Group) → g ≡ group_of (decode_at x p 4) → g.ok ≡ false → g.symbol < 8
-index-small x p g e t = (decode_illegal x p 4 g.symbol (group_illegal g (decode_at x p 4) e t)).inside
-
--- what `group_at` hands on of a group's answer
-pub as_group : (a : Decoded4) (d : Decoded) → a ≡ answer4 d → ◌≡◌ {A = Group} (record { ok = a.ok; symbol = a.symbol; bytes = a.bytes })
-    (group_of d)
-unfolding answer4 group_of
-as_group a (Bytes b) e = ap (λ (y : Decoded4). record { ok = y.ok; symbol = y.symbol; bytes = y.bytes }) e
-as_group a (IllegalAt k) e = ap (λ (y : Decoded4). record { ok = y.ok; symbol = y.symbol; bytes = y.bytes }) e
+pub index-small : (x : ℕ → ℕ) (p : ℕ) (bad : Illegal) → Err bad ≡ answer4 (decode_at x p 4) → bad.index < 8
+index-small x p bad e = (decode_illegal x p 4 bad.index (group_illegal bad (decode_at x p 4) e)).inside
 
 -- ---- a place is bit s of byte i
 pub split_place : (a n : ℕ) → 8 * (a % (8 * n) / 8) + a % (8 * n) % 8 ≡ a % (8 * n)
@@ -80,12 +82,12 @@ module _ (r : List ℕ) (i s a : ℕ) (here : 8 * i + s ≡ a % bits r) where
       decode_same (bit_at r) (bit_at r) (8 * i + s) a n
       (λ j l. bit_round r (8 * i + s) a j (ap (λ (y : ℕ). y % bits r) here ∙ mod-mod a (bits r)))
 
-  module _ (g : Group) (e : g ≡ group_of (decode_at (bit_at r) (8 * i + s) 4)) where
-    pub read-bytes : g.ok ≡ true → decode_at (bit_at r) a 4 ≡ Bytes g.bytes
-    read-bytes t = sym (at_place 4) ∙ group_bytes g (decode_at (bit_at r) (8 * i + s) 4) e t
+  pub read-bytes : (four : List ℕ) → Ok four ≡ answer4 (decode_at (bit_at r) (8 * i + s) 4) → decode_at (bit_at r) a 4 ≡ Bytes four
+  read-bytes four e = sym (at_place 4) ∙ group_bytes four (decode_at (bit_at r) (8 * i + s) 4) e
 
-    pub read_illegal : g.ok ≡ false → decode_at (bit_at r) a 4 ≡ IllegalAt g.symbol
-    read_illegal t = sym (at_place 4) ∙ group_illegal g (decode_at (bit_at r) (8 * i + s) 4) e t
+  pub read_illegal : (bad : Illegal) → Err bad ≡ answer4 (decode_at (bit_at r) (8 * i + s) 4)
+      → decode_at (bit_at r) a 4 ≡ IllegalAt bad.index
+  read_illegal bad e = sym (at_place 4) ∙ group_illegal bad (decode_at (bit_at r) (8 * i + s) 4) e
 
 -- ---- the xor of a row, taken one by one
 xor_none : (s : ℕ) → bit_xor s (xor_of []) ≡ s
@@ -169,48 +171,39 @@ five_more n i s at j next p h e f =
     place-on n at s (8 * i + s + 40 * j) 5 next p h e f ∙ ap (λ (y : ℕ). y % (8 * n)) z
 
 module _ (r : List ℕ) (i s first : ℕ) (lent after : List ℕ) where
-  groups_refused : is_readable (decode_at (bit_at r) (8 * i + s) 252) ≡ false
-      → GroupsRead r i s first lent after (record { ok = false; sum = 0; next = 0 })
-  groups_refused e = record {
-    told = sym e;
-    laid = λ t. absurd (never t);
-    summed = λ t. absurd (never t);
-    inside = λ t. absurd (never t);
-    on = λ t. absurd (never t);
-  }
-
   pub groups_read : (sum next : ℕ) → Running (bit_at r) (8 * i + s) 63 first lent sum after → next < length r
       → 8 * next + s ≡ (8 * i + s + 2520) % bits r
-      → GroupsRead r i s first lent after (record { ok = true; sum = sum; next = next })
+      → GroupsRead r i s first lent after (record { sum = sum; next = next })
   groups_read sum next u l e = record {
-    told = sym (ap is_readable u.read);
-    laid = λ t. u.laid ∙ ap (λ (o : Decoded). sets lent 3 (bytes_in o)) (sym u.read);
-    summed = λ t. u.summed ∙ ap (λ (o : Decoded). bit_xor first (xor_of (bytes_in o))) (sym u.read);
-    inside = λ t. l;
-    on = λ t. e;
+    legal = ap is_readable u.read;
+    laid = u.laid ∙ ap (λ (o : Decoded). sets lent 3 (bytes_in o)) (sym u.read);
+    summed = u.summed ∙ ap (λ (o : Decoded). bit_xor first (xor_of (bytes_in o))) (sym u.read);
+    inside = l;
+    on = e;
   }
 
   module _ (at : ℕ) {j sum : ℕ} (u : Running (bit_at r) (8 * i + s) j first lent sum after)
-      (here : 8 * at + s ≡ (8 * i + s + 40 * j) % bits r)
-      (g : Group) (e : g ≡ group_of (decode_at (bit_at r) (8 * at + s) 4)) where
-    pub groups_stop : j < 63 → g.ok ≡ false → GroupsRead r i s first lent after (record { ok = false; sum = 0; next = 0 })
-    groups_stop l t =
-        groups_refused (ap is_readable (stops (bit_at r) (8 * i + s) j u.bytes u.read g.symbol
-        (read_illegal r at s (8 * i + s + 40 * j) here g e t) 63 l))
+      (here : 8 * at + s ≡ (8 * i + s + 40 * j) % bits r) where
+    pub groups_stop : (bad : Illegal) → Err bad ≡ answer4 (decode_at (bit_at r) (8 * at + s) 4) → j < 63
+        → is_readable (groups_at r i s) ≡ false
+    groups_stop bad e l =
+        ap is_readable (stops (bit_at r) (8 * i + s) j u.bytes u.read bad.index
+        (read_illegal r at s (8 * i + s + 40 * j) here bad e) 63 l)
 
-    pub groups_more : g.ok ≡ true → (sum' : ℕ) (after' : List ℕ) → sum' ≡ bit_xor sum (xor_of g.bytes)
-        → after' ≡ sets after (3 + 4 * j) g.bytes → Running (bit_at r) (8 * i + s) (j + 1) first lent sum' after'
-    groups_more t sum' after' p q =
+    pub groups_more : (four : List ℕ) → Ok four ≡ answer4 (decode_at (bit_at r) (8 * at + s) 4)
+        → (sum' : ℕ) (after' : List ℕ) → sum' ≡ bit_xor sum (xor_of four)
+        → after' ≡ sets after (3 + 4 * j) four → Running (bit_at r) (8 * i + s) (j + 1) first lent sum' after'
+    groups_more four e sum' after' p q =
         subst (λ (y : ℕ). Running (bit_at r) (8 * i + s) (j + 1) first lent y after') (sym p)
-        (subst (λ (l : List ℕ). Running (bit_at r) (8 * i + s) (j + 1) first lent (bit_xor sum (xor_of g.bytes)) l) (sym q)
-        (one_more u g.bytes (read-bytes r at s (8 * i + s + 40 * j) here g e t)))
+        (subst (λ (l : List ℕ). Running (bit_at r) (8 * i + s) (j + 1) first lent (bit_xor sum (xor_of four)) l) (sym q)
+        (one_more u four (read-bytes r at s (8 * i + s + 40 * j) here four e)))
 
 -- ---- the turns of `first_bad`, and its ways out
 pub none-bad : (x : ℕ → ℕ) (q : ℕ) → is_readable (decode_at x q 0) ≡ true
 none-bad x q = ap is_readable (no_bytes x q)
 
 module _ (r : List ℕ) (i s at j : ℕ) (u : is_readable (decode_at (bit_at r) (8 * i + s) (4 * j)) ≡ true)
-    (here : 8 * at + s ≡ (8 * i + s + 40 * j) % bits r) (g : Group) (e : g ≡ group_of (decode_at (bit_at r) (8 * at + s) 4)) where
+    (here : 8 * at + s ≡ (8 * i + s + 40 * j) % bits r) where
   abbrev q : ℕ
   q = 8 * i + s
 
@@ -220,8 +213,10 @@ module _ (r : List ℕ) (i s at j : ℕ) (u : is_readable (decode_at (bit_at r) 
   legal : decode_at (bit_at r) q (4 * j) ≡ Bytes b
   legal = readable (decode_at (bit_at r) q (4 * j)) u
 
-  pub bad_here : j < 65 → g.ok ≡ false → decode_at (bit_at r) (8 * i + s) 260 ≡ IllegalAt (8 * j + g.symbol)
-  bad_here l t = stops (bit_at r) q j b legal g.symbol (read_illegal r at s (q + 40 * j) here g e t) 65 l
+  pub bad_here : (bad : Illegal) → Err bad ≡ answer4 (decode_at (bit_at r) (8 * at + s) 4) → j < 65
+      → decode_at (bit_at r) (8 * i + s) 260 ≡ IllegalAt (8 * j + bad.index)
+  bad_here bad e l = stops (bit_at r) q j b legal bad.index (read_illegal r at s (q + 40 * j) here bad e) 65 l
 
-  pub none_more : g.ok ≡ true → is_readable (decode_at (bit_at r) (8 * i + s) (4 * (j + 1))) ≡ true
-  none_more t = ap is_readable (four_more (bit_at r) q j b legal g.bytes (read-bytes r at s (q + 40 * j) here g e t))
+  pub none_more : (four : List ℕ) → Ok four ≡ answer4 (decode_at (bit_at r) (8 * at + s) 4)
+      → is_readable (decode_at (bit_at r) (8 * i + s) (4 * (j + 1))) ≡ true
+  none_more four e = ap is_readable (four_more (bit_at r) q j b legal four (read-bytes r at s (q + 40 * j) here four e))

@@ -4,31 +4,29 @@
 --     bad-met, true_met        both verdicts, by the header's
 use mathlib.Core.Path.{◌≡◌, refl, sym, ap, ap₂, ◌∙◌}
 use mathlib.Core.Bool.{Bool, true, false}
-use mathlib.Core.List.{List}
 use Prim.Native.Nat.{ℕ, ◌+◌, ◌<◌}
 use native.Mathlib.Omega.{arith}
 use Rattle.gcr.specs.Places.{decode_at}
-use Rattle.scan_sync.specs.declared.SyncEnd.{SyncEnd}
-use Rattle.scan_sync.specs.declared.SyncEnd.TheVariants.{At, Nothing}
+use Rattle.std.specs.Prelude.{Option, Some, None}
 use Rattle.scan_sync.specs.Sync.{sync_end}
 use Rattle.scan_sync.proofs.SyncLaws.{sync_sound}
 use Rattle.scan_visit.specs.declared.HeaderAt.{HeaderAt}
 use Rattle.scan_visit.specs.declared.HeaderAt.TheVariants.{Illegal, No, FalseSum, Sector}
 use Rattle.scan_visit.specs.declared.DataAt.TheVariants.{Nowhere}
-use Rattle.scan_visit.specs.Visit.{DataFound, HeaderFound, BadHeader, TrueHeader, IllegalHeader, NoHeader, FalseHeader}
+use Rattle.scan_visit.specs.Visit.{HeaderFound, BadHeader, TrueHeader, IllegalHeader, NoHeader, FalseHeader}
 use Rattle.scan_visit.specs.Visit.{data_at, by_sync, data_for, by_header, visit}
-use Rattle.scan_visit.specs.Answers.{header_answer, DataBlock, data_answer, Met, met, visit_answer}
+use Rattle.scan_visit.specs.Answers.{header_answer, DataBlock, data_answer, met, visit_answer}
 use Rattle.scan_visit.specs.Inside.{without_payload}
 use Rattle.scan_visit.proofs.VisitLaws.{header→}
 
 module _ (x : ℕ → ℕ) (h : ℕ) where
-  pub data_found : (d : ℕ) → sync_end x (h + 80) 768 ≡ At d → data_answer (data_at x d) ≡ data_answer (data_for x h)
-  data_found d e = sym (ap (λ (o : SyncEnd). data_answer (by_sync x o)) e)
+  pub data_found : (d : ℕ) → sync_end x (h + 80) 768 ≡ Some d → data_answer (data_at x d) ≡ data_answer (data_for x h)
+  data_found d e = sym (ap (λ (o : Option ℕ). data_answer (by_sync x o)) e)
 
-  pub data_none : sync_end x (h + 80) 768 ≡ Nothing → without_payload Nowhere ≡ data_answer (data_for x h)
-  data_none e = sym (ap (λ (o : SyncEnd). data_answer (by_sync x o)) e)
+  pub data_none : sync_end x (h + 80) 768 ≡ None → without_payload Nowhere ≡ data_answer (data_for x h)
+  data_none e = sym (ap (λ (o : Option ℕ). data_answer (by_sync x o)) e)
 
-  pub data_near : (d : ℕ) → sync_end x (h + 80) 768 ≡ At d → d < h + 848
+  pub data_near : (d : ℕ) → sync_end x (h + 80) 768 ≡ Some d → d < h + 848
   data_near d e = omega (arith, (sync_sound x (h + 80) 0 768 (h + 80) d (omega arith) (λ i i1 i2. absurd (omega arith)) e).2)
 
 -- is it a true header
@@ -37,6 +35,12 @@ is_sector (Illegal k) = false
 is_sector No = false
 is_sector (FalseSum s) = false
 is_sector (Sector s i j) = true
+
+pub no_sector : (a : HeaderAt) → ((s i j : ℕ) → a ≡ Sector s i j → ⊥) → is_sector a ≡ false
+no_sector (Illegal k) none = refl
+no_sector No none = refl
+no_sector (FalseSum s) none = refl
+no_sector (Sector s i j) none = absurd (none s i j refl)
 
 pub bad-met : (a : HeaderAt) (f : HeaderFound) → a ≡ header_answer f → is_sector a ≡ false → met a (without_payload Nowhere) ≡ visit_answer f
 bad-met a (BadHeader fault) e n = ap (λ (y : HeaderAt). met y (without_payload Nowhere)) e

@@ -4,14 +4,13 @@
 use mathlib.Core.Path.{◌≡◌, refl, ap, ◌∙◌, subst}
 use mathlib.Core.Bool.{Bool, true, false, ◌&&◌}
 use mathlib.Core.List.{List}
-use Prim.Native.Nat.{ℕ, zero, suc, ◌+◌, ◌-◌, ◌≤◌, ◌<◌}
+use Prim.Native.Nat.{ℕ, zero, suc, ◌+◌, ◌≤◌, ◌<◌}
 use native.Mathlib.Omega.{arith}
 use lib.Dec.{eqb, ltb, leb}
 use Rattle.base.specs.Choice.{pick}
 use Rattle.geometry.specs.Zones.{sectors_of}
 use Rattle.gcr.specs.Symbols.{Decoded, Bytes, IllegalAt}
-use Rattle.scan_sync.specs.declared.SyncEnd.{SyncEnd}
-use Rattle.scan_sync.specs.declared.SyncEnd.TheVariants.{At}
+use Rattle.std.specs.Prelude.{Option, Some}
 use Rattle.scan_sync.specs.Sync.{run, sync_from}
 use Rattle.scan_visit.specs.Visit.{DataFound, HeaderFound, BadHeader, TrueHeader, NoHeader, FalseHeader, at, true_sum, by_header}
 
@@ -24,31 +23,31 @@ module _ (x y : ℕ → ℕ) where
   unfolding sync_from
   sync-same zero p c a = refl
   sync-same (suc n) p c a =
-      ap (λ (v : ℕ). pick (eqb v 0 && leb 10 c) (At p) (sync_from x n (p + 1) (run v c))) (a p (omega arith) (omega arith))
-      ∙ ap (λ (o : SyncEnd). pick (eqb (y p) 0 && leb 10 c) (At p) o)
+      ap (λ (v : ℕ). pick (eqb v 0 && leb 10 c) (Some p) (sync_from x n (p + 1) (run v c))) (a p (omega arith) (omega arith))
+      ∙ ap (λ (o : Option ℕ). pick (eqb (y p) 0 && leb 10 c) (Some p) o)
       (sync-same n (p + 1) (run (y p) c) (λ i l m. a i (omega arith) (omega arith)))
 
-  pub sync_from_lem : (n p c h : ℕ) → sync_from x n p c ≡ At h → p ≤ h
+  pub sync_from_lem : (n p c h : ℕ) → sync_from x n p c ≡ Some h → p ≤ h
   unfolding sync_from
   sync_from_lem zero p c h e = absurd (let z : ◌≡◌ {A = ℕ} 0 1 = cc in omega arith)
   sync_from_lem (suc n) p c h e = by (eqb (x p) 0 && leb 10 c) e (λ f. sync_from_lem n (p + 1) (run (x p) c) h f)
     where
-      by : (b : Bool) → pick b (At p) (sync_from x n (p + 1) (run (x p) c)) ≡ At h
-          → (sync_from x n (p + 1) (run (x p) c) ≡ At h → p + 1 ≤ h) → p ≤ h
+      by : (b : Bool) → pick b (Some p) (sync_from x n (p + 1) (run (x p) c)) ≡ Some h
+          → (sync_from x n (p + 1) (run (x p) c) ≡ Some h → p + 1 ≤ h) → p ≤ h
       by true e f = let q : p ≡ h = cc in omega arith
       by false e f = omega (arith, f e)
 
-  pub sync_at : (n p c h : ℕ) → sync_from x n p c ≡ At h → Agree x y p (h + 1) → sync_from y n p c ≡ At h
+  pub sync_at : (n p c h : ℕ) → sync_from x n p c ≡ Some h → Agree x y p (h + 1) → sync_from y n p c ≡ Some h
   unfolding sync_from
   sync_at zero p c h e a = absurd (let z : ◌≡◌ {A = ℕ} 0 1 = cc in omega arith)
   sync_at (suc n) p c h e a =
-      subst (λ (v : ℕ). pick (eqb v 0 && leb 10 c) (At p) (sync_from y n (p + 1) (run v c)) ≡ At h)
+      subst (λ (v : ℕ). pick (eqb v 0 && leb 10 c) (Some p) (sync_from y n (p + 1) (run v c)) ≡ Some h)
       (a p (omega arith) (omega (arith, sync_from_lem (suc n) p c h e)))
       (by (eqb (x p) 0 && leb 10 c) e (λ f. sync_at n (p + 1) (run (x p) c) h f (λ i l m. a i (omega arith) m)))
     where
-      by : (b : Bool) → pick b (At p) (sync_from x n (p + 1) (run (x p) c)) ≡ At h
-          → (sync_from x n (p + 1) (run (x p) c) ≡ At h → sync_from y n (p + 1) (run (x p) c) ≡ At h)
-          → pick b (At p) (sync_from y n (p + 1) (run (x p) c)) ≡ At h
+      by : (b : Bool) → pick b (Some p) (sync_from x n (p + 1) (run (x p) c)) ≡ Some h
+          → (sync_from x n (p + 1) (run (x p) c) ≡ Some h → sync_from y n (p + 1) (run (x p) c) ≡ Some h)
+          → pick b (Some p) (sync_from y n (p + 1) (run (x p) c)) ≡ Some h
       by true e f = e
       by false e f = f e
 

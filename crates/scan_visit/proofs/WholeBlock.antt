@@ -21,16 +21,18 @@ use Rattle.base.proofs.Lists.{get_d_tab}
 use Rattle.base.proofs.Xor.{xor_of-append}
 use Rattle.gcr.specs.Symbols.{Decoded, Bytes, IllegalAt}
 use Rattle.gcr.specs.Places.{decode_at}
+use Rattle.gcr.specs.Answers.{answer4}
+use Rattle.gcr.specs.declared.Illegal.{Illegal}
+use Rattle.std.specs.Prelude.{Ok, Err}
 use Rattle.gcr.proofs.DecodeLaws.{byte_at, decode_bytes, decode_more, decode_stop}
 use Rattle.gcr_blocks.specs.Answers.{is_readable, bytes_in}
 use Rattle.ring.specs.Bit.{bits, bit_at}
-use Rattle.scan_visit.specs.declared.Group.{Group}
 use Rattle.scan_visit.specs.declared.GroupRun.{GroupRun}
 use Rattle.scan_visit.specs.declared.BlockSums.{BlockSums}
 use Rattle.scan_visit.specs.declared.DataAt.TheVariants.{OtherMark, WrongSum, Good}
 use Rattle.scan_visit.specs.Visit.{at, payload_in, by_data}
 use Rattle.scan_visit.specs.Answers.{a_block, data_answer}
-use Rattle.scan_visit.specs.Inside.{group_of, without_payload, GroupsRead, BlockRead}
+use Rattle.scan_visit.specs.Inside.{without_payload, groups_at, GroupsRead, BlockRead}
 use Rattle.scan_visit.proofs.BlockTests.{block-mark, block-sum, block-good}
 use Rattle.scan_visit.proofs.GroupLaws.{length-bytes, at_place, read-bytes, read_illegal, never, readable, xor_alone, xor_three}
 
@@ -89,10 +91,8 @@ pub three_stored : (lent : List ℕ) (a b c : ℕ) → length (set (set (set len
 three_stored lent a b c = simp length-set
 
 -- ---- the ways out of `read_block`: the block stands at bit s of byte i, and its second group at bit s of byte `next`
-module _ (r : List ℕ) (i s : ℕ) (f : List ℕ) (ef : decode_at (bit_at r) (8 * i + s) 4 ≡ Bytes f) (lent : List ℕ) (room : length lent ≡ 256)
-    (next : ℕ) (there : 8 * next + s ≡ (8 * i + s + 40) % bits r) (run : GroupRun) (after : List ℕ)
-    (gr : GroupsRead r next s (bit_xor (bit_xor (at f 1) (at f 2)) (at f 3)) (set (set (set lent 0 (at f 1)) 1 (at f 2)) 2 (at f 3))
-    after run)
+module _ (r : List ℕ) (i s : ℕ) (f : List ℕ) (ef : decode_at (bit_at r) (8 * i + s) 4 ≡ Bytes f)
+    (next : ℕ) (there : 8 * next + s ≡ (8 * i + s + 40) % bits r)
   where
     abbrev x : ℕ → ℕ
     x = bit_at r
@@ -100,29 +100,22 @@ module _ (r : List ℕ) (i s : ℕ) (f : List ℕ) (ef : decode_at (bit_at r) (8
     abbrev p : ℕ
     p = 8 * i + s
 
-    middle : decode_at x (8 * next + s) 252 ≡ decode_at x (p + 40) 252
+    middle : groups_at r next s ≡ decode_at x (p + 40) 252
     middle = at_place r next s (p + 40) there 252
 
-    refused : (k : ℕ) (any : List ℕ) → decode_at x p 260 ≡ IllegalAt k
-        → BlockRead (decode_at x p 260) any (record { ok = false; sum = 0; told = 0 })
-    refused k any e = record {
-      told = sym (ap is_readable e);
-      laid = λ t. absurd (never t);
-      summed = λ t. absurd (never t);
-      said = λ t. absurd (never t);
-    }
+    pub block_stops : is_readable (groups_at r next s) ≡ false → is_readable (decode_at x p 260) ≡ false
+    block_stops t =
+        let u = unreadable (groups_at r next s) t in
+        ap is_readable (decode_stop x p 4 f ef 252 u.0 4 (sym middle ∙ u.1))
 
-    pub block_stops : (any : List ℕ) → run.ok ≡ false → BlockRead (decode_at x p 260) any (record { ok = false; sum = 0; told = 0 })
-    block_stops any t =
-        let u = unreadable (decode_at x (8 * next + s) 252) (sym gr.told ∙ t) in
-        refused (8 + u.0) any (decode_stop x p 4 f ef 252 u.0 4 (sym middle ∙ u.1))
-
-    module _ (t : run.ok ≡ true) (g : Group) (e : g ≡ group_of (decode_at x (8 * run.next + s) 4)) where
+    module _ (lent : List ℕ) (room : length lent ≡ 256) (run : GroupRun) (after : List ℕ)
+        (gr : GroupsRead r next s (bit_xor (bit_xor (at f 1) (at f 2)) (at f 3)) (set (set (set lent 0 (at f 1)) 1 (at f 2)) 2 (at f 3))
+        after run) where
       abbrev m : List ℕ
-      m = bytes_in (decode_at x (8 * next + s) 252)
+      m = bytes_in (groups_at r next s)
 
       em : decode_at x (p + 40) 252 ≡ Bytes m
-      em = sym middle ∙ readable (decode_at x (8 * next + s) 252) (sym gr.told ∙ t)
+      em = sym middle ∙ readable (groups_at r next s) gr.legal
 
       front : decode_at x p 256 ≡ Bytes (f ++ m)
       front = decode_more x p 4 f ef 252 m em
@@ -130,49 +123,44 @@ module _ (r : List ℕ) (i s : ℕ) (f : List ℕ) (ef : decode_at (bit_at r) (8
       last-place : 8 * run.next + s ≡ (p + 2560) % bits r
       last-place =
           let z : p + 40 + 2520 ≡ p + 2560 = omega arith in
-          gr.on t ∙ ap (λ (y : ℕ). (y + 2520) % bits r) there ∙ mod-add-mod (p + 40) (bits r) 2520 ∙ ap (λ (y : ℕ). y % bits r) z
+          gr.on ∙ ap (λ (y : ℕ). (y + 2520) % bits r) there ∙ mod-add-mod (p + 40) (bits r) 2520 ∙ ap (λ (y : ℕ). y % bits r) z
 
-      pub block-ends : (any : List ℕ) → g.ok ≡ false → BlockRead (decode_at x p 260) any (record { ok = false; sum = 0; told = 0 })
-      block-ends any u =
-          refused (512 + g.symbol) any
-          (decode_stop x p 256 (f ++ m) front 4 g.symbol 0 (read_illegal r run.next s (p + 2560) last-place g e u))
+      pub block-ends : (bad : Illegal) → Err bad ≡ answer4 (decode_at x (8 * run.next + s) 4) → is_readable (decode_at x p 260) ≡ false
+      block-ends bad e =
+          ap is_readable
+          (decode_stop x p 256 (f ++ m) front 4 bad.index 0 (read_illegal r run.next s (p + 2560) last-place bad e))
 
-      pub block_done : g.ok ≡ true
-          → BlockRead (decode_at x p 260) (set after 255 (at g.bytes 0))
-          (record { ok = true; sum = bit_xor run.sum (at g.bytes 0); told = at g.bytes 1 })
-      block_done u =
-          let el = read-bytes r run.next s (p + 2560) last-place g e u in
-          let w : decode_at x p 260 ≡ Bytes ((f ++ m) ++ g.bytes) = decode_more x p 256 (f ++ m) front 4 g.bytes el in
+      pub block_done : (last : List ℕ) → Ok last ≡ answer4 (decode_at x (8 * run.next + s) 4)
+          → BlockRead (decode_at x p 260) (set after 255 (at last 0))
+          (record { sum = bit_xor run.sum (at last 0); told = at last 1 })
+      block_done last e =
+          let el = read-bytes r run.next s (p + 2560) last-place last e in
+          let w : decode_at x p 260 ≡ Bytes ((f ++ m) ++ last) = decode_more x p 256 (f ++ m) front 4 last el in
           let lf = length-bytes x p 4 f ef in
           let lm = length-bytes x (p + 40) 252 m em in
-          let ll = length-bytes x (p + 2560) 4 g.bytes el in
+          let ll = length-bytes x (p + 2560) 4 last el in
           let b = sym (ap bytes_in w) in
           record {
-            told = sym (ap is_readable w);
-            laid = λ v. ap (λ (y : List ℕ). set y 255 (at g.bytes 0)) (gr.laid t) ∙ payload_is f m g.bytes lf lm ll lent room
-                ∙ ap payload_in b;
-            summed = λ v. ap (λ (y : ℕ). bit_xor y (at g.bytes 0)) (gr.summed t) ∙ sum_is f m g.bytes lf lm ll
+            legal = ap is_readable w;
+            laid = ap (λ (y : List ℕ). set y 255 (at last 0)) gr.laid ∙ payload_is f m last lf lm ll lent room ∙ ap payload_in b;
+            summed = ap (λ (y : ℕ). bit_xor y (at last 0)) gr.summed ∙ sum_is f m last lf lm ll
                 ∙ ap (λ (y : List ℕ). xor_of (payload_in y)) b;
-            said = λ v. checksum_is f m g.bytes lf lm ll ∙ ap (λ (y : List ℕ). at y 257) b;
+            said = checksum_is f m last lf lm ll ∙ ap (λ (y : List ℕ). at y 257) b;
           }
 
 -- ---- the ways out of `block_at`
 module _ (d : ℕ) (x : ℕ → ℕ) (p : ℕ) (first : List ℕ) (ef : decode_at x p 4 ≡ Bytes first) (payload : List ℕ) (sums : BlockSums)
     (br : BlockRead (decode_at x p 260) payload sums) where
-  module _ (t : sums.ok ≡ true) where
-    all_legal : is_readable (decode_at x p 260) ≡ true
-    all_legal = sym br.told ∙ t
+  pub judged_mark : at first 0 ≢ 7 → without_payload (OtherMark d) ≡ data_answer (by_data d (decode_at x p 260))
+  judged_mark q = block-mark d (decode_at x p 260) br.legal (λ z. q (sym (same_marker x p first ef br.legal) ∙ z))
 
-    pub judged_mark : at first 0 ≢ 7 → without_payload (OtherMark d) ≡ data_answer (by_data d (decode_at x p 260))
-    judged_mark q = block-mark d (decode_at x p 260) all_legal (λ z. q (sym (same_marker x p first ef all_legal) ∙ z))
+  module _ (m : at first 0 ≡ 7) where
+    pub judged_sum : sums.sum ≢ sums.told → without_payload (WrongSum d) ≡ data_answer (by_data d (decode_at x p 260))
+    judged_sum q =
+        block-sum d (decode_at x p 260) br.legal (same_marker x p first ef br.legal ∙ m)
+        (λ z. q (br.summed ∙ z ∙ sym br.said))
 
-    module _ (m : at first 0 ≡ 7) where
-      pub judged_sum : sums.sum ≢ sums.told → without_payload (WrongSum d) ≡ data_answer (by_data d (decode_at x p 260))
-      judged_sum q =
-          block-sum d (decode_at x p 260) all_legal (same_marker x p first ef all_legal ∙ m)
-          (λ z. q (br.summed t ∙ z ∙ sym (br.said t)))
-
-      pub judged_good : sums.sum ≡ sums.told → a_block (Good d) payload ≡ data_answer (by_data d (decode_at x p 260))
-      judged_good q =
-          ap (a_block (Good d)) (br.laid t)
-          ∙ block-good d (decode_at x p 260) all_legal (same_marker x p first ef all_legal ∙ m) (sym (br.summed t) ∙ q ∙ br.said t)
+    pub judged_good : sums.sum ≡ sums.told → a_block (Good d) payload ≡ data_answer (by_data d (decode_at x p 260))
+    judged_good q =
+        ap (a_block (Good d)) br.laid
+        ∙ block-good d (decode_at x p 260) br.legal (same_marker x p first ef br.legal ∙ m) (sym br.summed ∙ q ∙ br.said)

@@ -8,8 +8,7 @@ use Rattle.geometry.specs.Blocks.{header_sum, header_bits, data_search, block_bi
 use Rattle.gcr.specs.Symbols.{Decoded, Bytes, IllegalAt}
 use Rattle.gcr.specs.Places.{decode_at}
 use Rattle.scan_sync.specs.Sync.{sync_end}
-use Rattle.scan_sync.specs.declared.SyncEnd.{SyncEnd}
-use Rattle.scan_sync.specs.declared.SyncEnd.TheVariants.{At, Nothing}
+use Rattle.std.specs.Prelude.{Option, Some, None}
 
 -- why no data block is read; d is the data place
 pub data DataFault : Type 0 where
@@ -66,9 +65,9 @@ unfoldable pub data_at : (ℕ → ℕ) → ℕ → DataFound
 data_at x d = pick (header_mark (decode_at x d 4)) (AnotherHeader d) (by_data d (decode_at x d 260))
 
 -- what the data search comes to, by the sync end that it finds
-abbrev pub by_sync : (ℕ → ℕ) → SyncEnd → DataFound
-by_sync x Nothing = BadData NoSync
-by_sync x (At d) = data_at x d
+abbrev pub by_sync : (ℕ → ℕ) → Option ℕ → DataFound
+by_sync x None = BadData NoSync
+by_sync x (Some d) = data_at x d
 
 -- the data search of a header at place h starts 80 bits after it and covers 768 bits
 abbrev pub data_for : (ℕ → ℕ) → ℕ → DataFound

@@ -1,5 +1,5 @@
 // Blocks where they stand on a ring: a header, a data block, and both as a visit of the scan meets them.
-ghost use Rattle.std.specs.Prelude.{◌≡◌, false, ◌++◌, ◌+◌, ◌*◌, ◌%◌, ◌^◌, ◌<◌, ◌≤◌, length};
+ghost use Rattle.std.specs.Prelude.{◌≡◌, false, ◌++◌, ◌+◌, ◌*◌, ◌%◌, ◌^◌, ◌<◌, ◌≤◌, length, MatchOption};
 ghost use Rattle.std.specs.Int.Bits.{bit_xor};
 ghost use Rattle.std.proofs.lemmas.List.Edits.{sets};
 ghost use Rattle.base.specs.Limits.{longest_ring};
@@ -7,18 +7,19 @@ ghost use Rattle.base.specs.Lists.{xor_of};
 ghost use Rattle.geometry.specs.Blocks.{header_bits, block_bits};
 ghost use Rattle.gcr.specs.Symbols.{Bytes, IllegalAt};
 ghost use Rattle.gcr.specs.Places.{decode_at};
+ghost use Rattle.gcr.specs.Answers.{answer4};
 ghost use Rattle.gcr_blocks.specs.Answers.{is_readable};
 ghost use Rattle.ring.specs.Bit.{IsRing, bit_at};
 ghost use Rattle.scan_visit.specs.declared.DataAt.TheVariants.{Nowhere};
 ghost use Rattle.scan_visit.specs.Visit.{visit, data_at, by_data, data_for};
-ghost use Rattle.scan_visit.specs.Answers.{header_answer, a_block, data_answer, met, a_visit, visit_answer};
-ghost use Rattle.scan_visit.specs.Inside.{group_of, header_by, without_payload, GroupsRead, BlockRead};
+ghost use Rattle.scan_visit.specs.Answers.{header_answer, a_block, data_answer, a_visit, visit_answer};
+ghost use Rattle.scan_visit.specs.Inside.{header_by, without_payload, groups_at, GroupsRead, BlockRead};
 
-use scan_sync::SyncEnd;
+use gcr::Illegal;
 
 // What stands at a sync end: a symbol outside the table, by the index of the first, no header of this track, one with a false checksum, by
 // its sector, or a true one, by its sector and both ids.
-#[derive(Clone, Copy)]
+#[derive(Clone, Copy, Debug, PartialEq, Eq)]
 pub enum HeaderAt {
     Illegal(u8),
     No,
@@ -28,7 +29,7 @@ pub enum HeaderAt {
 
 // What the data search of a header comes to: no sync end; and at a place a symbol outside the table, by the index of the first, a marker
 // that is none, a false checksum, another header, or a good block.
-#[derive(Clone, Copy)]
+#[derive(Clone, Copy, Debug, PartialEq, Eq)]
 pub enum DataAt {
     Nowhere,
     IllegalIn(usize, usize),
@@ -39,33 +40,19 @@ pub enum DataAt {
 }
 
 // A visit: the header, and what the data search comes to where that is a true one.
-#[derive(Clone, Copy)]
+#[derive(Clone, Copy, Debug, PartialEq, Eq)]
 pub struct Visited {
     pub header: HeaderAt,
     pub data: DataAt,
 }
 
-// A group of the ring: are all its symbols in the table, the index of the first that is not, and the four bytes; refused, zeros.
-#[derive(Drop)]
-struct Group {
-    pub ok: bool,
-    pub symbol: u8,
-    pub bytes: [u8; 4],
-}
-
 // The group that begins at bit s of byte i.
-fn group_at(ring: &[u8], i: usize, s: usize) -> Group
+fn group_at(ring: &[u8], i: usize, s: usize) -> Result<[u8; 4], Illegal>
     requires ring { IsRing ring.now }
     requires i_in_bounds { (i < length ring.now) × (s < 8) }
-    ensures { result ≡ group_of (decode_at (bit_at ring.now) (8 * i + s) 4) }
+    ensures { result ≡ answer4 (decode_at (bit_at ring.now) (8 * i + s) 4) }
 {
-    let four = gcr::decode_bits(ring::forty_bits(ring, i, s));
-    let bytes = four.bytes;
-    Group {
-        ok: four.ok,
-        symbol: four.symbol,
-        bytes: bytes,
-    }
+    gcr::decode_bits(ring::forty_bits(ring, i, s))
 }
 
 // The byte five bytes after byte i of n, counted round. A ring may be shorter than a group.
@@ -109,17 +96,13 @@ fn header_at(ring: &[u8], track: u8, place: usize) -> HeaderAt
     let start = place % (8 * n);
     let i = start / 8;
     let s = start % 8;
-    let first = group_at(ring, i, s);
-    if !first.ok {
-        return HeaderAt::Illegal(first.symbol);
+    match group_at(ring, i, s) {
+        Err(illegal) => HeaderAt::Illegal(illegal.index),
+        Ok(first) => match group_at(ring, five_on(i, n), s) {
+            Err(illegal) => HeaderAt::Illegal(8 + illegal.index),
+            Ok(second) => checked_header(first, second, track),
+        },
     }
-    let second = group_at(ring, five_on(i, n), s);
-    if !second.ok {
-        return HeaderAt::Illegal(8 + second.symbol);
-    }
-    let a = first.bytes;
-    let b = second.bytes;
-    checked_header(a, b, track)
 }
 
 // A verdict, and no payload.
@@ -142,88 +125,66 @@ fn take_four(payload: &mut [u8], at: usize, g: [u8; 4], sum: u8) -> u8
     sum ^ g[0] ^ g[1] ^ g[2] ^ g[3]
 }
 
-// Groups read in a row: are all their symbols in the table, the xor with their bytes, and the byte of the ring that follows.
-#[derive(Drop)]
+// Groups read in a row: the xor with their bytes, and the byte of the ring that follows.
+#[derive(Clone, Copy)]
 struct GroupRun {
-    pub ok: bool,
     pub sum: u8,
     pub next: usize,
 }
 
-// The 63 groups of a data block that are payload whole, from bit s of byte i on.
-fn read_groups(ring: &[u8], i: usize, s: usize, sum: u8, payload: &mut [u8]) -> GroupRun
+// The 63 groups of a data block that are payload whole, from bit s of byte i on; nothing where a symbol is outside the table.
+fn read_groups(ring: &[u8], i: usize, s: usize, sum: u8, payload: &mut [u8]) -> Option<GroupRun>
     requires ring { IsRing ring.now }
     requires i_in_bounds { (i < length ring.now) × (s < 8) }
     requires payload_len { length payload.old ≡ 256 }
-    ensures { GroupsRead ring.now i s sum payload.old payload.new result }
+    ensures { MatchOption result (is_readable (groups_at ring.now i s) ≡ false)
+        (GroupsRead ring.now i s sum payload.old payload.new) }
 {
     let n = ring.len();
     let mut xor = sum;
     let mut at = i;
     for k in 0..63usize {
-        let g = group_at(ring, at, s);
-        if !g.ok {
-            return GroupRun {
-                ok: false,
-                sum: 0,
-                next: 0,
-            };
-        }
-        let bytes = g.bytes;
-        xor = take_four(payload, 3 + 4 * k, bytes, xor);
+        let four = group_at(ring, at, s).ok()?;
+        xor = take_four(payload, 3 + 4 * k, four, xor);
         at = five_on(at, n);
     }
-    GroupRun {
-        ok: true,
-        sum: xor,
-        next: at,
-    }
+    Some(GroupRun { sum: xor, next: at })
 }
 
-// A data block read: are all its symbols in the table, the xor of its payload, and what its checksum says.
-#[derive(Drop)]
+// A data block read: the xor of its payload, and what its checksum says.
+#[derive(Clone, Copy)]
 struct BlockSums {
-    pub ok: bool,
     pub sum: u8,
     pub told: u8,
 }
 
-// The data block at bit s of byte i, whose first group is `first`.
-fn read_block(ring: &[u8], i: usize, s: usize, first: [u8; 4], payload: &mut [u8]) -> BlockSums
+// The data block at bit s of byte i, whose first group is `first`; nothing where a symbol is outside the table.
+fn read_block(
+    ring: &[u8],
+    i: usize,
+    s: usize,
+    first: [u8; 4],
+    payload: &mut [u8],
+) -> Option<BlockSums>
     requires ring { IsRing ring.now }
     requires i_in_bounds { (i < length ring.now) × (s < 8) }
     requires payload_len { length payload.old ≡ 256 }
     requires s_value { decode_at (bit_at ring.now) (8 * i + s) 4 ≡ Bytes first }
-    ensures { BlockRead (decode_at (bit_at ring.now) (8 * i + s) 260) payload.new result }
+    ensures { MatchOption result (is_readable (decode_at (bit_at ring.now) (8 * i + s) 260) ≡ false)
+        (BlockRead (decode_at (bit_at ring.now) (8 * i + s) 260) payload.new) }
 {
     payload[0] = first[1];
     payload[1] = first[2];
     payload[2] = first[3];
     let second = five_on(i, ring.len());
     let xor = first[1] ^ first[2] ^ first[3];
-    let run = read_groups(ring, second, s, xor, payload);
-    if !run.ok {
-        return BlockSums {
-            ok: false,
-            sum: 0,
-            told: 0,
-        };
-    }
-    let last = group_at(ring, run.next, s);
-    if !last.ok {
-        return BlockSums {
-            ok: false,
-            sum: 0,
-            told: 0,
-        };
-    }
-    let end = last.bytes;
-    payload[255] = end[0];
-    BlockSums {
-        ok: true,
-        sum: run.sum ^ end[0],
-        told: end[1],
-    }
+    let run = read_groups(ring, second, s, xor, payload)?;
+    let last = group_at(ring, run.next, s).ok()?;
+    payload[255] = last[0];
+    Some(BlockSums {
+        sum: run.sum ^ last[0],
+        told: last[1],
+    })
 }
 
 // The index of the first symbol outside the table in the data block at bit s of byte i, which has one. It is looked for once a block is
@@ -237,11 +198,10 @@ fn first_bad(ring: &[u8], i: usize, s: usize) -> usize
     let n = ring.len();
     let mut at = i;
     for k in 0..65usize {
-        let g = group_at(ring, at, s);
-        if !g.ok {
-            return 8 * k + g.symbol as usize;
+        match group_at(ring, at, s) {
+            Err(illegal) => return 8 * k + usize::from(illegal.index),
+            Ok(_) => at = five_on(at, n),
         }
-        at = five_on(at, n);
     }
     0
 }
@@ -262,10 +222,9 @@ fn block_at(
     ensures { a_block result payload.new
         ≡ data_answer (by_data place (decode_at (bit_at ring.now) (8 * i + s) 260)) }
 {
-    let read = read_block(ring, i, s, first, payload);
-    if !read.ok {
+    let Some(read) = read_block(ring, i, s, first, payload) else {
         return wiped(payload, DataAt::IllegalIn(place, first_bad(ring, i, s)));
-    }
+    };
     if first[0] != 0x07 {
         return wiped(payload, DataAt::OtherMark(place));
     }
@@ -285,15 +244,18 @@ fn data_at(ring: &[u8], place: usize, payload: &mut [u8; 256]) -> DataAt
     let start = place % (8 * ring.len());
     let i = start / 8;
     let s = start % 8;
-    let first = group_at(ring, i, s);
-    if !first.ok {
-        return wiped(payload, DataAt::IllegalIn(place, first.symbol as usize));
+    match group_at(ring, i, s) {
+        Err(illegal) => wiped(
+            payload,
+            DataAt::IllegalIn(place, usize::from(illegal.index)),
+        ),
+        Ok(first) => {
+            if first[0] == 0x08 {
+                return wiped(payload, DataAt::Another(place));
+            }
+            block_at(ring, place, i, s, first, payload)
+        }
     }
-    let bytes = first.bytes;
-    if bytes[0] == 0x08 {
-        return wiped(payload, DataAt::Another(place));
-    }
-    block_at(ring, place, i, s, bytes, payload)
 }
 
 // What the data search of the header at `place` comes to.
@@ -304,23 +266,13 @@ fn data_for(ring: &[u8], place: usize, payload: &mut [u8; 256]) -> DataAt
 {
     let sync = scan_sync::find_sync_end(ring, place + geometry::HEADER_BITS, geometry::DATA_SEARCH);
     match sync {
-        SyncEnd::At(d) => data_at(ring, d, payload),
-        SyncEnd::Nothing => wiped(payload, DataAt::Nowhere),
+        Some(d) => data_at(ring, d, payload),
+        None => wiped(payload, DataAt::Nowhere),
     }
 }
 
-// A header that is no true one has no data.
-fn no_data(header: HeaderAt, payload: &mut [u8; 256]) -> Visited
-    ensures { a_visit result payload.new ≡ met header (without_payload Nowhere) }
-{
-    *payload = [0u8; 256];
-    Visited {
-        header: header,
-        data: DataAt::Nowhere,
-    }
-}
-
-// The visit to the sync end at `place`; the payload is stored where there is a good block, else zeros.
+// The visit to the sync end at `place`; the payload is stored where there is a good block, else zeros. A header that is no true one has no
+// data.
 pub fn visit_at(ring: &[u8], track: u8, place: usize, payload: &mut [u8; 256]) -> Visited
     requires ring { IsRing ring.now }
     requires place_bound { place < 2 ^ 62 }
@@ -328,15 +280,13 @@ pub fn visit_at(ring: &[u8], track: u8, place: usize, payload: &mut [u8; 256]) -
 {
     let header = header_at(ring, track, place);
     match header {
-        HeaderAt::Illegal(_) => no_data(header, payload),
-        HeaderAt::No => no_data(header, payload),
-        HeaderAt::FalseSum(_) => no_data(header, payload),
         HeaderAt::Sector(_, _, _) => {
             let data = data_for(ring, place, payload);
-            Visited {
-                header: header,
-                data: data,
-            }
+            Visited { header, data }
+        }
+        _ => {
+            let data = wiped(payload, DataAt::Nowhere);
+            Visited { header, data }
         }
     }
 }

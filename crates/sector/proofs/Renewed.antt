@@ -13,8 +13,7 @@ use lib.ListN.{length, get_or}
 use Rattle.base.specs.Choice.{pick}
 use Rattle.base.specs.Bits.{bit_in}
 use Rattle.base.proofs.Tests.{eqb_yes, eqb_no}
-use Rattle.scan_sync.specs.declared.SyncEnd.{SyncEnd}
-use Rattle.scan_sync.specs.declared.SyncEnd.TheVariants.{At, Nothing}
+use Rattle.std.specs.Prelude.{Option, Some, None}
 use Rattle.scan.specs.declared.SectorRecord.{SectorRecord}
 use Rattle.scan_visit.specs.Visit.{BadData, AnotherHeader, GoodData, HeaderFound, BadHeader, TrueHeader, Visit, visit, next_bit}
 use Rattle.scan.specs.Scan.{next_sync, visits, records_from}
@@ -79,13 +78,13 @@ module _ (x y : ℕ → ℕ) (n track sector : ℕ) (places payload : List ℕ) 
     spared : Each Spared (visits x track n b)
 
   -- the search for the next sync end
-  next-none : (b : ℕ) → Before b → next_sync x n b ≡ Nothing → next_sync y n b ≡ Nothing
+  next-none : (b : ℕ) → Before b → next_sync x n b ≡ None → next_sync y n b ≡ None
   next-none b f e = by (dec_lt b n)
     where
       none : records_from x track n b ≡ []
       none = no_sync_lem x track n b e
 
-      by : Dec (b < n) → next_sync y n b ≡ Nothing
+      by : Dec (b < n) → next_sync y n b ≡ None
       by (no l) = next_no y n b (omega arith)
       by (yes l) =
           next_yes y n b l
@@ -96,7 +95,7 @@ module _ (x y : ℕ → ℕ) (n track sector : ℕ) (places payload : List ℕ) 
           (f.known d t))))
           ∙ sym (next_yes x n b l) ∙ e
 
-  next-at : (b h : ℕ) → Before b → next_sync x n b ≡ At h → next_sync y n b ≡ At h
+  next-at : (b h : ℕ) → Before b → next_sync x n b ≡ Some h → next_sync y n b ≡ Some h
   next-at b h f e =
       let l : b < n = (next-found x n b h e).0 in
       let m : h < n + 16 = omega (arith, (next-found x n b h e).1.2) in
@@ -119,7 +118,7 @@ module _ (x y : ℕ → ℕ) (n track sector : ℕ) (places payload : List ℕ) 
       (s o d t)))
 
   -- a visit that is
-  own-visit : (b h : ℕ) → Before b → next_sync x n b ≡ At h → (r : SectorRecord) → step_of (visit x track h) ≡ good r
+  own-visit : (b h : ℕ) → Before b → next_sync x n b ≡ Some h → (r : SectorRecord) → step_of (visit x track h) ≡ good r
       → records_from x track n b ≡ r ∷ records_from x track n (r.place + 2600) → In r.place places
       → step_of (visit y track h) ≡ good (record { sector = r.sector; place = r.place; payload = payload })
   own-visit b h f e r g q t =
@@ -144,7 +143,7 @@ module _ (x y : ℕ → ℕ) (n track sector : ℕ) (places payload : List ℕ) 
   Turned b c = (Before c → records_from y track n c ≡ map (renewed sector payload) (records_from x track n c))
       → records_from y track n b ≡ map (renewed sector payload) (records_from x track n b)
 
-  module _ (b h : ℕ) (f : Before b) (e : next_sync x n b ≡ At h) where
+  module _ (b h : ℕ) (f : Before b) (e : next_sync x n b ≡ Some h) where
     turn : visits x track n b ≡ visit x track h ∷ visits x track n (next_bit (visit x track h))
     turn = visits_turn x track n b h e
 
@@ -235,12 +234,12 @@ module _ (x y : ℕ → ℕ) (n track sector : ℕ) (places payload : List ℕ) 
       over y track n b (omega arith) ∙ ap (map (renewed sector payload)) (sym (over x track n b (omega arith)))
   go (suc m) b l f = by (next_sync x n b) refl (λ c k. go m c k)
     where
-      by : (o : SyncEnd) → next_sync x n b ≡ o
+      by : (o : Option ℕ) → next_sync x n b ≡ o
           → ((c : ℕ) → n ≤ m + c → Before c → records_from y track n c ≡ map (renewed sector payload) (records_from x track n c))
           → records_from y track n b ≡ map (renewed sector payload) (records_from x track n b)
-      by Nothing e ih =
+      by None e ih =
           no_sync_lem y track n b (next-none b f e) ∙ ap (map (renewed sector payload)) (sym (no_sync_lem x track n b e))
-      by (At h) e ih = step (step_of (visit x track h)) refl
+      by (Some h) e ih = step (step_of (visit x track h)) refl
         where
           step : (s : Step) → step_of (visit x track h) ≡ s
               → records_from y track n b ≡ map (renewed sector payload) (records_from x track n b)

@@ -1,22 +1,24 @@
 -- The rules by what the search found: reading, and replacing.
 --     read-refused, read-good         what the code makes of a search is what reading answers
---     small-found, taken_found        the places found are small, and are those of the copies
+--     fits-found .. small-found       the places found are those of the copies, and are small
 --     refused-met, good-met           reading, with the bad symbol: refused, and not
 --     refused_by_lem, rewritten_by        replacing: refused, and not
 use mathlib.Core.Path.{◌≡◌, refl, sym, ap, ◌∙◌, subst}
-use mathlib.Core.Logic.{◌≢◌}
 use mathlib.Core.Bool.{Bool, true, false, not}
 use mathlib.Core.List.{List, [], ◌∷◌, ◌++◌}
 use Prim.Native.Nat.{ℕ, zero, suc, ◌≤◌, ◌<◌}
 use native.Mathlib.Omega.{arith}
 use lib.Dec.{eqb}
-use lib.ListN.{length, get_or, take, drop, length-map}
+use lib.ListN.{length, take, drop, length-map}
 use lib.Seq.{take_at, length-sets}
 use borrow.Author.Tests.{ne_eqb, lt-ltb}
 use Rattle.base.specs.Choice.{pick}
 use Rattle.base.specs.Limits.{longest_ring}
-use Rattle.base.specs.Refusals.{ambiguous, ◌when◌, refusal, unless}
-use Rattle.base.proofs.Refusing.{unless-some}
+use Rattle.std.specs.Prelude.{All, Option, Ok, Err}
+use Rattle.base.specs.Refusals.{no_record, ambiguous, ◌when◌, refusal, unless}
+use Rattle.base.specs.Answers.{number_of, answer}
+use Rattle.base.specs.declared.Refusal.{Refusal}
+use Rattle.base.proofs.Answering.{answer-ok, answer-value}
 use Rattle.base.proofs.InRow.{sets_front}
 use Rattle.ring.specs.Bit.{IsRing, bits, bit_at}
 use Rattle.scan.specs.declared.SectorRecord.{SectorRecord}
@@ -28,21 +30,23 @@ use Rattle.scan.proofs.Few.{few_records}
 use Rattle.scan.proofs.EachRecord.{each_next}
 use Rattle.base.specs.declared.Sector.{Sector}
 use Rattle.sector.specs.declared.SectorRead.{SectorRead}
-use Rattle.sector.specs.declared.Replaced.TheVariants.{Written, Refused}
 use Rattle.sector.specs.declared.Rule.{Rule}
 use Rattle.sector.specs.declared.Rule.TheVariants.{Unique, Consistent}
 use Rattle.sector.specs.declared.Tally.{Tally}
-use Rattle.sector.specs.declared.Places.{Places}
+use Rattle.sector.specs.declared.Searched.{Searched}
 use Rattle.sector.specs.Rules.{records_in, records_for, all_like, unique, consistent, rule_of, read_by, read_met}
 use Rattle.base.specs.Sectors.{good, refused}
 use Rattle.sector.specs.Replacing.{data_block, written_at, places_in, replaced_by, answer_of}
-use Rattle.sector.specs.Inside.{Copies, search, first_payload, tally_of, places_of, copies_of}
-use Rattle.sector.specs.Inside.{is_ambiguous, refusal_by, not_read, PlacesFound, SmallPlaces}
-use Rattle.sector.proofs.SectorLaws.{read-scanned}
+use Rattle.sector.specs.Inside.{first_payload, tally_of, places_of}
+use Rattle.sector.specs.Inside.{is_ambiguous, refusal_by, not_read, places_by}
+use Rattle.sector.proofs.SectorLaws.{named-number, unless-told, read-scanned}
 use Rattle.sector.proofs.CopiesLaws.{whole, few_for}
 
-abbrev pub a_read : Sector → BadSymbol → SectorRead
+abbrev pub a_read : Sector → Option BadSymbol → SectorRead
 a_read found bad = record { sector = found; bad = bad }
+
+abbrev searched : Tally → Option BadSymbol → Searched
+searched tally bad = record { tally = tally; bad = bad }
 
 -- ---- the rules by a search are the rules by the records
 some-not-none : (n : ℕ) → eqb (suc n) 0 ≡ false
@@ -66,22 +70,28 @@ decided_by Consistent lent (r ∷ l) = rw (some-not-none (length l)) (by (all_li
 pub ambiguous_as : (found : Tally) (rule known : Rule) → rule ≡ known → is_ambiguous known found ≡ is_ambiguous rule found
 ambiguous_as found rule known e = ap (λ (r : Rule). is_ambiguous r found) (sym e)
 
--- the number by which a rule refuses, and the payload where it does not, are what reading answers
-module _ (ring : List ℕ) (track sector : ℕ) (is : IsRing ring) (rule : Rule) (number : ℕ)
-    (e : number ≡ refusal_by rule (tally_of (records_for sector (records_in ring track)))) where
+-- the refusal by which a rule refuses, and the payload where it does not, are what reading answers
+module _ (ring : List ℕ) (track sector : ℕ) (is : IsRing ring) (rule : Rule) where
   abbrev own : List SectorRecord
   own = records_for sector (records_in ring track)
 
-  read_as : (lent : List ℕ) → unless number refused (good (first_payload lent own)) ≡ read_by (rule_of rule) ring track sector
-  read_as lent =
-      ap (λ (n : ℕ). unless n refused (good (first_payload lent own))) e
-      ∙ decided_by rule lent own ∙ sym (read-scanned (rule_of rule) ring track sector is)
+  abbrev by_own : ℕ
+  by_own = refusal_by rule (tally_of own)
 
-  pub read-refused : number ≢ 0 → refused number ≡ read_by (rule_of rule) ring track sector
-  read-refused n = sym (unless-some number number refused (good (first_payload [] own)) refl n) ∙ read_as []
+  read_as : (lent : List ℕ) → unless by_own refused (good (first_payload lent own)) ≡ read_by (rule_of rule) ring track sector
+  read_as lent = decided_by rule lent own ∙ sym (read-scanned (rule_of rule) ring track sector is)
 
-  pub read-good : (lent : List ℕ) → number ≡ 0 → good (first_payload lent own) ≡ read_by (rule_of rule) ring track sector
-  read-good lent z = sym (ap (λ (n : ℕ). unless n refused (good (first_payload lent own))) z) ∙ read_as lent
+  pub read-refused : {A : Type 0} (a : A) (why : Refusal) → answer by_own a ≡ Err why
+      → read_by (rule_of rule) ring track sector ≡ refused (number_of why)
+  unfolding refusal_by
+  read-refused a why e =
+      sym (read_as []) ∙ unless-told (no_record when eqb (length own) 0 ∷ ambiguous when is_ambiguous rule (tally_of own) ∷ [])
+      (refl, (refl, tt)) a why e refused (good (first_payload [] own))
+
+  pub read-good : {A : Type 0} (a b : A) (lent : List ℕ) → answer by_own a ≡ Ok b
+      → read_by (rule_of rule) ring track sector ≡ good (first_payload lent own)
+  read-good a b lent e =
+      sym (read_as lent) ∙ ap (λ (n : ℕ). unless n refused (good (first_payload lent own))) (answer-ok by_own a b e)
 
 -- ---- the places found
 every_for : (P : SectorRecord → Type 0) (sector : ℕ) (rs : List SectorRecord) → Every P rs → Every P (records_for sector rs)
@@ -93,11 +103,10 @@ every_for P sector (r ∷ rs) t = by (eqb r.sector sector) (every_for P sector r
     by true q = (t.0, q)
     by false q = q
 
-every_place : (n : ℕ) (own : List SectorRecord) (more : List ℕ) → Every (λ r. r.place < n) own
-    → (i : ℕ) → i < length own → get_or (places_in own ++ more) i 0 < n
-every_place n [] more t i h = absurd (omega arith)
-every_place n (r ∷ own) more t zero h = t.0
-every_place n (r ∷ own) more t (suc i) h = every_place n own more t.1 i (omega arith)
+every_place : (n : ℕ) (own : List SectorRecord) → Every (λ r. r.place < n) own → All (λ (place : ℕ). place < n) (places_in own)
+every_place n [] t k d h = absurd (omega arith)
+every_place n (r ∷ own) t zero d h = t.0
+every_place n (r ∷ own) t (suc k) d h = every_place n own t.1 k d (omega arith)
 
 all_near : (ring : List ℕ) (track : ℕ) → length ring ≤ longest_ring → Every (λ r. r.place < 2000000) (records_in ring track)
 all_near ring track h =
@@ -115,39 +124,30 @@ module _ (ring : List ℕ) (track sector : ℕ) (is : IsRing ring) (lent : List 
   in_front : places_of lent found ≡ places_in found ++ drop (length found) lent
   in_front = sets_front (places_in found) lent (length found) (length-map found (λ r. r.place)) (omega (arith, few))
 
-  small-places : SmallPlaces (length found) (places_of lent found)
-  small-places =
-      record {
-        fits = omega (arith, length-sets lent 0 (places_in found), few);
-        small = subst (λ (l : List ℕ). (i : ℕ) → i < length found → get_or l i 0 < 2000000) (sym in_front)
-            (every_place 2000000 found _ (every_for _ sector (records_in ring track) (all_near ring track is.small)));
-      }
+  -- what `find_places` answers and leaves, where it does not refuse
+  module _ (rule : Rule) (bad : Option BadSymbol) (after : List ℕ) (stored : after ≡ places_of lent found) (r : Searched)
+      (told : places_by rule found bad ≡ Ok r) where
+    as-told : searched (tally_of found) bad ≡ r
+    as-told = answer-value (refusal_by rule (tally_of found)) (searched (tally_of found) bad) r told
 
-  the_places : take (length found) (places_of lent found) ≡ places_in found
-  the_places = ap (take (length found)) in_front
-      ∙ take_at (places_in found) (drop (length found) lent) (length found) (length-map found (λ r. r.place))
+    counted : length found ≡ r.tally.count
+    counted = ap (λ (p : Searched). p.tally.count) as-told
 
-  -- the same of what `find_places` tells
-  module _ (rule : Rule) (bad : BadSymbol) (after : List ℕ) (r : Places) (p : PlacesFound rule lent found bad after r) where
-    pub small-found : SmallPlaces r.count after
+    pub met-found : r.bad ≡ bad
+    met-found = sym (ap (λ (p : Searched). p.bad) as-told)
+
+    pub fits-found : r.tally.count ≤ length after
+    fits-found = omega (arith, counted, ap length stored, length-sets lent 0 (places_in found), few)
+
+    pub taken_found : take r.tally.count after ≡ places_in found
+    taken_found =
+        sym (ap (λ (n : ℕ). take n after) counted) ∙ ap (take (length found)) (stored ∙ in_front)
+        ∙ take_at (places_in found) (drop (length found) lent) (length found) (length-map found (λ r. r.place))
+
+    pub small-found : All (λ (place : ℕ). place < 2000000) (take r.tally.count after)
     small-found =
-        subst (λ (n : ℕ). SmallPlaces n after) (sym p.counted)
-        (subst (λ (l : List ℕ). SmallPlaces (length found) l) (sym p.stored) small-places)
-
-    pub taken_found : take r.count after ≡ places_in found
-    taken_found = ap (λ (n : ℕ). take n after) p.counted ∙ ap (take (length found)) p.stored ∙ the_places
-
--- a search and its rule, told
-pub places-told : (rule : Rule) (payload lent : List ℕ) (own : List SectorRecord) (t : Tally) (first after : List ℕ)
-    → search t first after ≡ copies_of payload lent own → (number : ℕ) → number ≡ refusal_by rule t → (bad whole : BadSymbol) → bad ≡ whole
-    → PlacesFound rule lent own whole after (record { number = number; count = t.count; bad = bad })
-places-told rule payload lent own t first after e number n bad whole m =
-    record {
-      told = n ∙ ap (λ (y : Copies). refusal_by rule y.tally) e;
-      counted = ap (λ (y : Copies). y.tally.count) e;
-      stored = ap (λ (y : Copies). y.places) e;
-      met = m;
-    }
+        subst (All (λ (place : ℕ). place < 2000000)) (sym taken_found)
+        (every_place 2000000 found (every_for _ sector (records_in ring track) (all_near ring track is.small)))
 
 -- ---- with the bad symbol: reading, and replacing
 module _ (rule : List SectorRecord → Sector) (ring : List ℕ) (track sector : ℕ) where
@@ -155,7 +155,7 @@ module _ (rule : List SectorRecord → Sector) (ring : List ℕ) (track sector :
   unfolding read_met
   refused-met n e = rw e
 
-  pub good-met : (bytes : List ℕ) → read_by rule ring track sector ≡ good bytes → (bad : BadSymbol) → bad ≡ bad_symbol ring track 0
+  pub good-met : (bytes : List ℕ) → read_by rule ring track sector ≡ good bytes → (bad : Option BadSymbol) → bad ≡ bad_symbol ring track 0
       → a_read (good bytes) bad ≡ read_met rule ring track sector
   unfolding read_met
   good-met bytes e bad m = rw (e, m)
@@ -165,14 +165,14 @@ module _ (rule : List SectorRecord → Sector) (ring : List ℕ) (track sector :
   sector-met = refl
 
   module _ (payload : List ℕ) where
-    pub refused_by_lem : (n : ℕ) → read_by rule ring track sector ≡ refused n
-        → (Refused n ≡ answer_of (read_met rule ring track sector)) × (ring ≡ replaced_by rule track sector payload ring)
+    pub refused_by_lem : (why : Refusal) → read_by rule ring track sector ≡ refused (number_of why)
+        → (Err why ≡ answer_of (read_met rule ring track sector)) × (ring ≡ replaced_by rule track sector payload ring)
     unfolding answer_of read_met replaced_by
-    refused_by_lem n e = (rw e, rw e)
+    refused_by_lem why e = (rw (e, named-number why), rw e)
 
-    pub rewritten_by : (bytes : List ℕ) → read_by rule ring track sector ≡ good bytes → (places after : List ℕ) (bad : BadSymbol)
+    pub rewritten_by : (bytes : List ℕ) → read_by rule ring track sector ≡ good bytes → (places after : List ℕ) (bad : Option BadSymbol)
         → places ≡ places_in (records_for sector (records_in ring track)) → after ≡ written_at places (data_block payload) ring
         → bad ≡ bad_symbol ring track 0
-        → (Written bad ≡ answer_of (read_met rule ring track sector)) × (after ≡ replaced_by rule track sector payload ring)
+        → (Ok bad ≡ answer_of (read_met rule ring track sector)) × (after ≡ replaced_by rule track sector payload ring)
     unfolding answer_of read_met replaced_by
     rewritten_by bytes e places after bad p q m = (rw (e, m), q ∙ rw (p, e))

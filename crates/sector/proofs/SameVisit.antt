@@ -4,7 +4,7 @@
 use mathlib.Core.Path.{◌≡◌, refl, sym, ap, ap₂, ◌∙◌, subst}
 use mathlib.Core.Bool.{Bool, true, false}
 use mathlib.Core.List.{List, [], ◌∷◌, ◌++◌}
-use Prim.Native.Nat.{ℕ, ◌+◌, ◌-◌, ◌≤◌, ◌<◌}
+use Prim.Native.Nat.{ℕ, ◌+◌, ◌≤◌, ◌<◌}
 use native.Mathlib.Omega.{arith}
 use native.Mathlib.Decide.{dec_lt}
 use lib.Dec.{eqb}
@@ -21,8 +21,7 @@ use Rattle.gcr.proofs.DecodeLaws.{byte_at}
 use Rattle.gcr_blocks.proofs.RoundTrips.{placed, groups_back}
 use Rattle.track_build.specs.Blocks.{data_bytes}
 use Rattle.track_build.proofs.Meaning.{data_long, data_lt}
-use Rattle.scan_sync.specs.declared.SyncEnd.{SyncEnd}
-use Rattle.scan_sync.specs.declared.SyncEnd.TheVariants.{At, Nothing}
+use Rattle.std.specs.Prelude.{Option, Some, None}
 use Rattle.scan.specs.declared.SectorRecord.{SectorRecord}
 use Rattle.scan_sync.specs.Sync.{sync_end}
 use Rattle.scan_visit.specs.Visit.{DataFound, BadData, AnotherHeader, GoodData, OtherMarker, FalseData, HeaderFound, BadHeader, TrueHeader}
@@ -54,9 +53,9 @@ past_at x h d = by (header_mark (decode_at x d 4)) (decode_at x d 260)
 past_data_lem : (x : ℕ → ℕ) (h : ℕ) → h + 80 ≤ past_data h (data_for x h)
 past_data_lem x h = by (sync_end x (h + 80) 768) refl
   where
-    by : (o : SyncEnd) → sync_end x (h + 80) 768 ≡ o → h + 80 ≤ past_data h (by_sync x o)
-    by Nothing e = omega arith
-    by (At d) e = omega (arith, past_at x h d, (found-sync x (h + 80) 768 d e).1)
+    by : (o : Option ℕ) → sync_end x (h + 80) 768 ≡ o → h + 80 ≤ past_data h (by_sync x o)
+    by None e = omega arith
+    by (Some d) e = omega (arith, past_at x h d, (found-sync x (h + 80) 768 d e).1)
 
 past_header_lem : (x : ℕ → ℕ) (track h : ℕ) → h + 80 ≤ past_header h (by_header track (data_for x h) (decode_at x h 8))
 past_header_lem x track h = by (by_header track (data_for x h) (decode_at x h 8)) refl
@@ -78,9 +77,9 @@ module _ (x y : ℕ → ℕ) where
   search-same : (h : ℕ) → Agree x y (h + 80) (past_data h (data_for x h)) → data_for x h ≡ data_for y h
   search-same h = by (sync_end x (h + 80) 768) refl
     where
-      by : (o : SyncEnd) → sync_end x (h + 80) 768 ≡ o → Agree x y (h + 80) (past_data h (by_sync x o)) → by_sync x o ≡ data_for y h
-      by Nothing e a = ap (by_sync y) (sym e ∙ sync-same x y 768 (h + 80) 0 (λ i l m. a i l (omega arith)))
-      by (At d) e a =
+      by : (o : Option ℕ) → sync_end x (h + 80) 768 ≡ o → Agree x y (h + 80) (past_data h (by_sync x o)) → by_sync x o ≡ data_for y h
+      by None e a = ap (by_sync y) (sym e ∙ sync-same x y 768 (h + 80) 0 (λ i l m. a i l (omega arith)))
+      by (Some d) e a =
           let p : past_data h (data_at x d) ≡ d + 2600 = past_at x h d in
           let q : h + 80 ≤ d = sync_from_lem x y 768 (h + 80) 0 d e in
           data_same d (λ i l m. a i (omega arith) (omega arith))
@@ -141,7 +140,7 @@ module _ (payload : List ℕ) (len : length payload ≡ 256) (bytes : (i : ℕ) 
     far : h + 90 ≤ r.place
     far = omega (arith, (found-sync x (h + 80) 768 r.place g.searched).1)
 
-    searched : sync_end y (h + 80) 768 ≡ At r.place
+    searched : sync_end y (h + 80) 768 ≡ Some r.place
     searched = sync_at x y 768 (h + 80) 0 r.place g.searched (λ i l m. by i l (dec_lt i r.place) m)
       where
         by : (i : ℕ) → h + 80 ≤ i → Dec (i < r.place) → i < r.place + 1 → x i ≡ y i

@@ -9,8 +9,7 @@ use native.Mathlib.Omega.{arith}
 use native.Mathlib.Decide.{dec_lt, ℕ_discrete}
 use Rattle.gcr.specs.Places.{decode_at}
 use Rattle.track_build.proofs.Unrolled.{Track, Place, at-header, at_block, after as slots_apart, place-run, Ones10, Found, ten_ones}
-use Rattle.scan_sync.specs.declared.SyncEnd.{SyncEnd}
-use Rattle.scan_sync.specs.declared.SyncEnd.TheVariants.{At, Nothing}
+use Rattle.std.specs.Prelude.{Option, Some, None}
 use Rattle.scan.specs.declared.SectorRecord.{SectorRecord}
 use Rattle.scan_sync.specs.Sync.{sync_end}
 use Rattle.scan_visit.specs.Visit.{DataFound, BadData, AnotherHeader, GoodData, HeaderFound, BadHeader, TrueHeader, Visit}
@@ -69,7 +68,7 @@ module _ (B : ℕ → ℕ) (st ln : ℕ → ℕ) (hh hd : ℕ → Bool) (hn dn :
           by (no n) = absurd (omega (arith, place-run B st ln hh hd hn dn tr q k pl h (omega arith) (omega arith), sy.zer))
 
   -- the data search of a header finds its own slot's block, that of a data block nothing
-  search_in : (h k d : ℕ) → In-slot h k → sync_end B (h + 80) 768 ≡ At d → (h ≡ st k + 40) × (d ≡ st k + 232)
+  search_in : (h k d : ℕ) → In-slot h k → sync_end B (h + 80) 768 ≡ Some d → (h ≡ st k + 40) × (d ≡ st k + 232)
   search_in h k d s e =
       let f = found-sync B (h + 80) 768 d e in
       by (slot_low h k s, slot_high h k s) f.1 f.2 (real d (omega (arith, f.1)) f.0)
@@ -91,9 +90,9 @@ module _ (B : ℕ → ℕ) (st ln : ℕ → ℕ) (hh hd : ℕ → Bool) (hn dn :
   past_data_lem : (h k : ℕ) → In-slot h k → past_data h (data_for B h) ≤ st k + 2832
   past_data_lem h k s = by (sync_end B (h + 80) 768) refl
     where
-      by : (o : SyncEnd) → sync_end B (h + 80) 768 ≡ o → past_data h (by_sync B o) ≤ st k + 2832
-      by Nothing e = omega (arith, slot_high h k s)
-      by (At d) e = omega (arith, past_at B h d, (search_in h k d s e).1)
+      by : (o : Option ℕ) → sync_end B (h + 80) 768 ≡ o → past_data h (by_sync B o) ≤ st k + 2832
+      by None e = omega (arith, slot_high h k s)
+      by (Some d) e = omega (arith, past_at B h d, (search_in h k d s e).1)
 
   past_in : (track h k : ℕ) → In-slot h k → past_look (visit B track h) ≤ st k + 2832
   unfolding visit
@@ -127,7 +126,7 @@ module _ (B : ℕ → ℕ) (st ln : ℕ → ℕ) (hh hd : ℕ → Bool) (hn dn :
       inside : st slot + 2928 ≤ n
       look : past_look (visit B track h) ≤ st slot + 2832
 
-    next_is : (b h : ℕ) → next_sync B n b ≡ At h → Next b h
+    next_is : (b h : ℕ) → next_sync B n b ≡ Some h → Next b h
     next_is b h e =
         let f = next-found B n b h e in
         by f.1.1 (omega (arith, f.0, f.1.2)) (real h (omega (arith, f.1.1)) f.1.0)
@@ -148,7 +147,7 @@ module _ (B : ℕ → ℕ) (st ln : ℕ → ℕ) (hh hd : ℕ → Bool) (hn dn :
     abbrev pub Lies : ℕ → Type 0
     Lies d = (k : ℕ) × (d ≡ st k + 232) × (st k + 2928 ≤ n)
 
-    good_is : (b h : ℕ) (r : SectorRecord) → next_sync B n b ≡ At h → step_of (visit B track h) ≡ good r
+    good_is : (b h : ℕ) (r : SectorRecord) → next_sync B n b ≡ Some h → step_of (visit B track h) ≡ good r
         → (r.place ≡ h + 192) × Lies r.place
     good_is b h r e g =
         let x = next_is b h e in
@@ -180,7 +179,7 @@ module _ (B : ℕ → ℕ) (st ln : ℕ → ℕ) (hh hd : ℕ → Bool) (hn dn :
           by (no a) (yes c) = absurd (omega (arith, after k x.slot c, (tr.slot k).long, x.low))
           by (no a) (no c) = absurd (let q : st k ≡ st x.slot = ap st (omega arith) in omega (arith, x.low))
 
-      module _ (b h : ℕ) (e : next_sync B n b ≡ At h) (known : Known b) where
+      module _ (b h : ℕ) (e : next_sync B n b ≡ Some h) (known : Known b) where
         x : Next b h
         x = next_is b h e
 
@@ -227,10 +226,10 @@ module _ (B : ℕ → ℕ) (st ln : ℕ → ℕ) (hh hd : ℕ → Bool) (hn dn :
       spared_in zero b l known = subst (Each Spared) (sym (visits_end B track n (n - b) b (omega arith))) tt
       spared_in (suc m) b l known = by (next_sync B n b) refl (λ c k f. spared_in m c k f)
         where
-          by : (o : SyncEnd) → next_sync B n b ≡ o → ((c : ℕ) → n ≤ m + c → Known c → Each Spared (visits B track n c))
+          by : (o : Option ℕ) → next_sync B n b ≡ o → ((c : ℕ) → n ≤ m + c → Known c → Each Spared (visits B track n c))
               → Each Spared (visits B track n b)
-          by Nothing e ih = subst (Each Spared) (sym (visits-none B track n (n - b) b e)) tt
-          by (At h) e ih =
+          by None e ih = subst (Each Spared) (sym (visits-none B track n (n - b) b e)) tt
+          by (Some h) e ih =
               subst (Each Spared) (sym (visits_turn B track n b h e)) (
                 here b h e known,
                 ih (next_bit (visit B track h)) (omega (arith, (next_is b h e).past, visit-on B track h)) (next_known b h e known),

@@ -3,11 +3,11 @@
 --     written_turn, written_all    a turn of the writing, and its end
 use mathlib.Core.Path.{◌≡◌, ◌∙◌}
 use mathlib.Core.List.{List, append-nil}
-use Prim.Native.Nat.{ℕ, ◌+◌, ◌-◌, ◌≤◌, ◌<◌}
+use Prim.Native.Nat.{ℕ, ◌+◌, ◌≤◌, ◌<◌}
 use native.Mathlib.Numerals.{add-one}
 use native.Mathlib.Omega.{arith}
-use lib.ListN.{length, get_or, take, drop, drop_of_length-le}
-use lib.Seq.{sets, drop-cons, get_or-take, length-take-le}
+use lib.ListN.{length, get_or, drop, drop_of_length-le}
+use lib.Seq.{sets, drop-cons}
 use Rattle.base.proofs.InRow.{sets_front}
 use Rattle.gcr.specs.Groups.{encode}
 use Rattle.gcr.proofs.EncodeLaws.{length-encode}
@@ -22,17 +22,12 @@ block-laid payload out block l e =
     e ∙ sets_front (encode 65 (data_bytes 1 payload)) out 325 (length-encode 65 (data_bytes 1 payload)) (omega arith)
     ∙ rw (drop_of_length-le out {i = 325} (omega arith), append-nil)
 
-module _ (places block : List ℕ) (count : ℕ) (fits : count ≤ length places) where
-  pub written_turn : (ring : List ℕ) (i : ℕ) → i < count
-      → written_at (drop i (take count places)) block ring
-      ≡ written_at (drop (i + 1) (take count places)) block (write_bytes ring (get_or places i 0) block 325)
+module _ (places block ring : List ℕ) (i : ℕ) where
+  pub written_turn : i < length places
+      → written_at (drop i places) block ring ≡ written_at (drop (i + 1) places) block (write_bytes ring (get_or places i 0) block 325)
   unfolding written_at
-  written_turn ring i h =
-      let l : length (take count places) ≡ count = length-take-le count places fits in
-      rw (add-one, drop-cons (take count places) i 0 (omega arith), get_or-take count places i 0 h)
+  written_turn h = rw (add-one, drop-cons places i 0 h)
 
-  pub written_all : (ring : List ℕ) (i : ℕ) → count ≤ i → written_at (drop i (take count places)) block ring ≡ ring
+  pub written_all : length places ≤ i → written_at (drop i places) block ring ≡ ring
   unfolding written_at
-  written_all ring i h =
-      let l : length (take count places) ≡ count = length-take-le count places fits in
-      rw (drop_of_length-le (take count places) {i = i} (omega arith))
+  written_all h = rw (drop_of_length-le places {i = i} h)

@@ -1,18 +1,19 @@
 -- What the functions inside this crate hand to one another; no promise of the crate needs it.
-use Rattle.std.specs.Prelude.{ℕ, ◌+◌, ◌≤◌, ◌<◌, ◌≡◌, Bool, true, ◌&&◌, not, List, [], ◌∷◌, eqb, ltb, length, get_or, set}
+use Rattle.std.specs.Prelude.{ℕ, ◌+◌, Bool, true, ◌&&◌, not, List, [], ◌∷◌, eqb, ltb, length, set, Option, None, Result}
 use Rattle.std.proofs.lemmas.List.Edits.{sets}
 use Rattle.base.specs.Choice.{pick}
 use Rattle.base.specs.Refusals.{no_record, ambiguous, ◌when◌, refusal}
+use Rattle.base.specs.Answers.{answer}
+use Rattle.base.specs.declared.Refusal.{Refusal}
 use Rattle.base.specs.Bytes.{same_bytes}
 use Rattle.base.specs.Sectors.{refused}
 use Rattle.scan.specs.declared.SectorRecord.{SectorRecord}
 use Rattle.scan.specs.declared.BadSymbol.{BadSymbol}
-use Rattle.scan.specs.declared.BadSymbol.TheVariants.{NoneMet}
 use Rattle.sector.specs.declared.SectorRead.{SectorRead}
 use Rattle.sector.specs.declared.Rule.{Rule}
 use Rattle.sector.specs.declared.Rule.TheVariants.{Unique, Consistent}
 use Rattle.sector.specs.declared.Tally.{Tally}
-use Rattle.sector.specs.declared.Places.{Places}
+use Rattle.sector.specs.declared.Searched.{Searched}
 use Rattle.sector.specs.Rules.{records_for, all_like}
 use Rattle.sector.specs.Replacing.{places_in}
 
@@ -68,7 +69,7 @@ with_record sector seen r = pick (eqb r.sector sector) (with_copy seen r) seen
 -- ---- what a rule makes of a search
 -- a sector that is refused, and no bad symbol
 abbrev pub not_read : ℕ → SectorRead
-not_read number = record { sector = refused number; bad = NoneMet }
+not_read number = record { sector = refused number; bad = None }
 
 abbrev pub is_ambiguous : Rule → Tally → Bool
 is_ambiguous Unique found = ltb 1 found.count
@@ -77,15 +78,6 @@ is_ambiguous Consistent found = not found.equal
 unfoldable pub refusal_by : Rule → Tally → ℕ
 refusal_by rule found = refusal (no_record when eqb found.count 0 ∷ ambiguous when is_ambiguous rule found ∷ [])
 
--- the copies of a sector by a rule: its refusal, how many there are, and where; and the bad symbol
-pub record PlacesFound (rule : Rule) (lent : List ℕ) (own : List SectorRecord) (bad : BadSymbol) (after : List ℕ) (r : Places)
-    : Type 0 where
-  pub told : r.number ≡ refusal_by rule (tally_of own)
-  pub counted : r.count ≡ length own
-  pub stored : after ≡ places_of lent own
-  pub met : r.bad ≡ bad
-
--- the first `count` of these places, which the list has, are so small that a block at them does not run out of numbers
-pub record SmallPlaces (count : ℕ) (places : List ℕ) : Type 0 where
-  pub fits : count ≤ length places
-  pub small : (i : ℕ) → i < count → get_or places i 0 < 2000000
+-- the copies of a sector by a rule, and the bad symbol; or its refusal
+abbrev pub places_by : Rule → List SectorRecord → Option BadSymbol → Result Searched Refusal
+places_by rule own bad = answer (refusal_by rule (tally_of own)) (record { tally = tally_of own; bad = bad })

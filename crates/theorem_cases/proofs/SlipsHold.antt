@@ -9,7 +9,7 @@ use Rattle.geometry.specs.Zones.{sectors_of}
 use Rattle.gcr.specs.Symbols.{Bytes}
 use Rattle.geometry.specs.Blocks.{header_sum}
 use Rattle.track_build.specs.Blocks.{header_with}
-use Rattle.scan_sync.specs.declared.SyncEnd.TheVariants.{At, Nothing}
+use Rattle.std.specs.Prelude.{Some, None}
 use Rattle.scan_sync.specs.Sync.{sync_from, sync_end}
 use Rattle.scan.specs.Scan.{next_sync}
 use Rattle.scan_visit.specs.Visit.{DataFound, TrueHeader, by_header}
@@ -20,15 +20,15 @@ use Rattle.theorem_cases.specs.Slips.{Ones, Slips}
 -- the search of a scan at its last bit: seventeen places, and the first of them is a zero
 at_last : (x : ℕ → ℕ) (last : ℕ) → x last ≡ 0 → next_sync x (last + 1) last ≡ sync_from x 16 (last + 1) 0
 at_last x last z =
-    ap (λ (b : Bool). pick b (sync_end x last (last + 1 + 16 - last)) Nothing) (ltb_yes last (last + 1) (omega arith))
+    ap (λ (b : Bool). pick b (sync_end x last (last + 1 + 16 - last)) None) (ltb_yes last (last + 1) (omega arith))
     ∙ ap (λ (n : ℕ). sync_from x n last 0) (omega arith)
     ∙ at_reset x 0 16 last z (omega arith)
 
-found_again : (x : ℕ → ℕ) (p n m : ℕ) → n + suc m ≡ 16 → Ones x p n → x (p + n) ≡ 0 → 10 ≤ n → sync_from x 16 p 0 ≡ At (p + n)
+found_again : (x : ℕ → ℕ) (p n m : ℕ) → n + suc m ≡ 16 → Ones x p n → x (p + n) ≡ 0 → 10 ≤ n → sync_from x 16 p 0 ≡ Some (p + n)
 found_again x p n m e o z l =
     passed x n (suc m) 16 p (p + n) 0 n e refl (omega arith) o ∙ at-hit x n m (p + n) z l
 
-nothing : (x : ℕ → ℕ) (p c : ℕ) → sync_from x 0 p c ≡ Nothing
+nothing : (x : ℕ → ℕ) (p c : ℕ) → sync_from x 0 p c ≡ None
 unfolding sync_from
 nothing x p c = refl
 

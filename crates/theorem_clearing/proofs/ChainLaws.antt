@@ -19,7 +19,9 @@ use Rattle.base.specs.declared.Sector.{Sector}
 use Rattle.reclaim_directory.specs.declared.Chain.{Chain}
 use Rattle.reclaim_directory.specs.Marks.{mark_place, marked, mark, unmarked}
 use Rattle.reclaim_directory.specs.Disk.{Reader, address, Disk, is_address}
-use Rattle.reclaim_directory.specs.Chains.{ended, broken_chain, next_track, next_sector, maygo, chain_from, chain_at}
+use Rattle.std.specs.Prelude.{Result, is_ok}
+use Rattle.base.specs.declared.Refusal.{Refusal}
+use Rattle.reclaim_directory.specs.Chains.{ended, broken_chain, length_of, marks_of, next_track, next_sector, maygo, chain_from, chain_at}
 use Rattle.theorem_clearing.specs.Links.{next, linked, mark_of, IsChain, Keeps}
 use Rattle.base.proofs.Picks.{pick_ind, picks, and_left, and_right}
 use Rattle.reclaim_directory.proofs.MarkLaws.{unmarked-set, set-old, set-only, now_marked, Fits, address_facts, place_in, fits-set}
@@ -54,12 +56,11 @@ module _ (disk : Disk) (read : Reader) where
       (λ _. refl))
 
   -- a chain that is not refused has a length, and is the chain of the links
-  abbrev Ended : List Bool → ℕ → ℕ → ℕ → Chain → Type 0
+  abbrev Ended : List Bool → ℕ → ℕ → ℕ → Result Chain Refusal → Type 0
   Ended m n t s c =
-      c.ok ≡ true → (d : ℕ) × (c.length ≡ n + d) × IsChain disk read m (address t s) d × Keeps read m (address t s) d c.marks
+      is_ok c ≡ true → (d : ℕ) × (length_of c ≡ n + d) × IsChain disk read m (address t s) d × Keeps read m (address t s) d (marks_of disk.marks c)
 
-  broken : (m : List Bool) (n t s : ℕ) → Ended m n t s (broken_chain disk.marks)
-  unfolding broken_chain
+  broken : (m : List Bool) (n t s : ℕ) → Ended m n t s broken_chain
   broken m n t s e = absurd (true≢false (sym e))
 
   at_end : (m : List Bool) (n t s : ℕ) → t ≡ 0 → Ended m n t s (ended n m)
@@ -186,7 +187,7 @@ module _ (disk : Disk) (read : Reader) where
     goes = let z : 0 < suc d = omega arith in rw (c.valid 0 z, c.fresh 0 z, c.readable 0 z)
 
   found_from : (d left : ℕ) (m : List Bool) (n t s : ℕ) → d < left → IsChain disk read m (address t s) d
-      → ((chain_from left disk read m n t s).ok ≡ true) × ((chain_from left disk read m n t s).length ≡ n + d)
+      → (is_ok (chain_from left disk read m n t s) ≡ true) × (length_of (chain_from left disk read m n t s) ≡ n + d)
   unfolding chain_from linked
   found_from d zero m n t s l c = absurd (not-suc-le-zero l)
   found_from zero (suc left) m n t s l c = rw (eq-eqb t 0 c.ends) (refl, sym (add-zero n))
@@ -196,19 +197,18 @@ module _ (disk : Disk) (read : Reader) where
       rw (z, goes m t s d c) (h.0, h.1 ∙ omega arith)
 
   pub found : (d : ℕ) (m : List Bool) (n t s : ℕ) → Fits disk m → IsChain disk read m (address t s) d
-      → ((chain_at disk read m n t s).ok ≡ true) × ((chain_at disk read m n t s).length ≡ n + d)
+      → (is_ok (chain_at disk read m n t s) ≡ true) × (length_of (chain_at disk read m n t s) ≡ n + d)
   found d m n t s w c =
       let l : d < suc (unmarked m + d) = omega arith in
       rw (sym (enough d (unmarked m) m n t s refl w)) (found_from d (suc (unmarked m + d)) m n t s l c)
 
-pub broken_off : (n : ℕ) → (broken_chain n).ok ≡ true → ⊥
-unfolding broken_chain
-broken_off n e = true≢false (sym e)
+pub broken_off : is_ok broken_chain ≡ true → ⊥
+broken_off e = true≢false (sym e)
 
 -- two readers that agree on the sectors that the chain marks find the same chain
 module _ (disk : Disk) (read read' : Reader) where
-  pub same_from : (left : ℕ) (m : List Bool) (n t s : ℕ) → Fits disk m → (chain_from left disk read m n t s).ok ≡ true
-      → ((t' s' : ℕ) → is_address disk t' s' ≡ true → marked (chain_from left disk read m n t s).marks t' s' ≡ true
+  pub same_from : (left : ℕ) (m : List Bool) (n t s : ℕ) → Fits disk m → is_ok (chain_from left disk read m n t s) ≡ true
+      → ((t' s' : ℕ) → is_address disk t' s' ≡ true → marked (marks_of disk.marks (chain_from left disk read m n t s)) t' s' ≡ true
       → read t' s' ≡ read' t' s')
       → chain_from left disk read' m n t s ≡ chain_from left disk read m n t s
   unfolding chain_from
@@ -218,17 +218,17 @@ module _ (disk : Disk) (read read' : Reader) where
       (fits-set disk m (mark_place t s) w) o' agree')
       (eqb t 0) refl o agree
     where
-      Agree : Chain → Type 0
-      Agree c = (t' s' : ℕ) → is_address disk t' s' ≡ true → marked c.marks t' s' ≡ true → read t' s' ≡ read' t' s'
+      Agree : Result Chain Refusal → Type 0
+      Agree c = (t' s' : ℕ) → is_address disk t' s' ≡ true → marked (marks_of disk.marks c) t' s' ≡ true → read t' s' ≡ read' t' s'
 
-      onward : Reader → Reader → Chain
+      onward : Reader → Reader → Result Chain Refusal
       onward r q = chain_from left disk q (mark m t s) (n + 1) (next_track (r t s)) (next_sector (r t s))
 
-      none : Chain
-      none = broken_chain disk.marks
+      none : Result Chain Refusal
+      none = broken_chain
 
       -- the sector at hand is marked at the end
-      at_hand : maygo disk read m t s ≡ true → (onward read read).ok ≡ true → Agree (onward read read) → read t s ≡ read' t s
+      at_hand : maygo disk read m t s ≡ true → is_ok (onward read read) ≡ true → Agree (onward read read) → read t s ≡ read' t s
       at_hand g o agree =
           let f = go_facts disk read m t s g in
           let h = followed disk read left (mark m t s) (n + 1) (next_track (read t s)) (next_sector (read t s))
@@ -236,9 +236,9 @@ module _ (disk : Disk) (read read' : Reader) where
           agree t s f.0 (h.3.old t s (now_marked m t s (place_in disk m t s w f.0)))
 
       Later : Type 0
-      Later = (onward read read).ok ≡ true → Agree (onward read read) → onward read read' ≡ onward read read
+      Later = is_ok (onward read read) ≡ true → Agree (onward read read) → onward read read' ≡ onward read read
 
-      go2 : Later → (b : Bool) → maygo disk read m t s ≡ b → (pick b (onward read read) none).ok ≡ true
+      go2 : Later → (b : Bool) → maygo disk read m t s ≡ b → is_ok (pick b (onward read read) none) ≡ true
           → Agree (pick b (onward read read) none)
           → pick (maygo disk read' m t s) (onward read' read') none ≡ pick b (onward read read) none
       go2 later true g o agree =
@@ -247,9 +247,9 @@ module _ (disk : Disk) (read read' : Reader) where
           = subst (λ (x : Sector). (is_address disk t s && (not (marked m t s) && x.ok)) ≡ true) e g in
           rw h (subst (λ (x : Sector). chain_from left disk read' (mark m t s) (n + 1) (next_track x) (next_sector x) ≡ onward read read) e
           (later o agree))
-      go2 later false g o agree = absurd (broken_off disk.marks o)
+      go2 later false g o agree = absurd (broken_off o)
 
-      go : Later → (b : Bool) → eqb t 0 ≡ b → (pick b (ended n m) (pick (maygo disk read m t s) (onward read read) none)).ok ≡ true
+      go : Later → (b : Bool) → eqb t 0 ≡ b → is_ok (pick b (ended n m) (pick (maygo disk read m t s) (onward read read) none)) ≡ true
           → Agree (pick b (ended n m) (pick (maygo disk read m t s) (onward read read) none))
           → pick b (ended n m) (pick (maygo disk read' m t s) (onward read' read') none)
           ≡ pick b (ended n m) (pick (maygo disk read m t s) (onward read read) none)

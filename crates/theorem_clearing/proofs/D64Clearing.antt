@@ -21,9 +21,10 @@ use Rattle.image_sector.specs.Media.{d64_medium}
 use Rattle.reclaim_directory.specs.declared.Chain.{Chain}
 use Rattle.reclaim_directory.specs.Marks.{marked, unmarked}
 use Rattle.reclaim_directory.specs.Disk.{Reader, Disk, bam_sector, is_address, marks_at_first}
-use Rattle.reclaim_directory.specs.Chains.{broken_chain, next_track, next_sector, chain_at, chain_of}
-use Rattle.reclaim.specs.declared.Outcome.TheVariants.{Cleared}
-use Rattle.reclaim.specs.Clearing.{Work, has_data, tracks_done, untouched, Answer, refuse, finish, free_on, clearing}
+use Rattle.reclaim_directory.specs.Chains.{broken_chain, marks_of, next_track, next_sector, chain_at, chain_of}
+use Rattle.std.specs.Prelude.{Result, is_ok}
+use Rattle.base.specs.declared.Refusal.{Refusal}
+use Rattle.reclaim.specs.Clearing.{Work, has_data, tracks_done, untouched, Answer, refuse, cleared, finish, free_on, clearing}
 use Rattle.reclaim.specs.Counting.{count_to}
 use Rattle.theorem_clearing.specs.Meaning.{SectorsCleared, free_count, data_count, once_more}
 use Rattle.base.proofs.Picks.{by_test}
@@ -110,7 +111,7 @@ module _ (disk : Disk) (laws : InD64 disk) (free : ℕ → ℕ → Bool) (image 
       ∙ omega arith
 
 -- ---- the chain
-module _ (disk : Disk) (read : Reader) (o : (chain_of disk read).ok ≡ true) where
+module _ (disk : Disk) (read : Reader) (o : is_ok (chain_of disk read) ≡ true) where
   abbrev first : Sector
   first = bam_sector read
 
@@ -120,10 +121,10 @@ module _ (disk : Disk) (read : Reader) (o : (chain_of disk read).ok ≡ true) wh
   at_first = go (is_address disk (next_track first) (next_sector first)) o
     where
       go : (b : Bool)
-          → (pick b (chain_at disk read (marks_at_first disk) 0 (next_track first) (next_sector first)) (broken_chain disk.marks)).ok ≡ true
+          → is_ok (pick b (chain_at disk read (marks_at_first disk) 0 (next_track first) (next_sector first)) broken_chain) ≡ true
           → b ≡ true
       go true e = refl
-      go false e = absurd (broken_off disk.marks e)
+      go false e = absurd (broken_off e)
 
   as_links : chain_of disk read ≡ chain_at disk read (marks_at_first disk) 0 (next_track first) (next_sector first)
   unfolding chain_of
@@ -131,7 +132,7 @@ module _ (disk : Disk) (read : Reader) (o : (chain_of disk read).ok ≡ true) wh
 
   -- what was marked at first stays marked
   pub old-marks : Fits disk (marks_at_first disk) → (t s : ℕ) → marked (marks_at_first disk) t s ≡ true
-      → marked (chain_of disk read).marks t s ≡ true
+      → marked (marks_of disk.marks (chain_of disk read)) t s ≡ true
   old-marks w t s h =
       let k = followed disk read (suc (unmarked (marks_at_first disk))) (marks_at_first disk) 0 (next_track first) (next_sector first) w
       (rw as_links at o) in
@@ -139,7 +140,7 @@ module _ (disk : Disk) (read : Reader) (o : (chain_of disk read).ok ≡ true) wh
 
   -- a reader that agrees on what is marked finds the same
   pub same_chain : (read' : Reader) → Fits disk (marks_at_first disk) → read 18 0 ≡ read' 18 0
-      → ((t s : ℕ) → is_address disk t s ≡ true → marked (chain_of disk read).marks t s ≡ true → read t s ≡ read' t s)
+      → ((t s : ℕ) → is_address disk t s ≡ true → marked (marks_of disk.marks (chain_of disk read)) t s ≡ true → read t s ≡ read' t s)
       → chain_of disk read' ≡ chain_of disk read
   unfolding chain_of
   same_chain read' w b agree =
@@ -161,18 +162,18 @@ module _ (disk : Disk) (laws : InD64 disk) where
     bam_reads : (bam_sector (d64_sector image)).ok ≡ true
     bam_reads = ap (λ (x : Sector). x.ok) (sector_reads disk.highest image large 18 0 (on_tracks 18 0 laws.first_there))
 
-    pub refused_chain : (chain_of disk (d64_sector image)).ok ≡ false → clearing d64_medium disk image ≡ refuse image wrong_link
+    pub refused_chain : is_ok (chain_of disk (d64_sector image)) ≡ false → clearing d64_medium disk image ≡ refuse image wrong_link
     unfolding clearing
     refused_chain o = rw (bam_reads, o)
 
-    pub cleared_once : (chain_of disk (d64_sector image)).ok ≡ true
+    pub cleared_once : is_ok (chain_of disk (d64_sector image)) ≡ true
         → clearing d64_medium disk image ≡ finish (after disk laws (free_on disk (d64_sector image)) image large)
     unfolding clearing
     cleared_once o = rw (bam_reads, o)
 
 -- one that is not refused
 module _ (disk : Disk) (laws : InD64 disk) (image : List ℕ) (large : Large disk.highest image)
-    (o : (chain_of disk (d64_sector image)).ok ≡ true) where
+    (o : is_ok (chain_of disk (d64_sector image)) ≡ true) where
   abbrev free : ℕ → ℕ → Bool
   free = free_on disk (d64_sector image)
 
@@ -184,13 +185,13 @@ module _ (disk : Disk) (laws : InD64 disk) (image : List ℕ) (large : Large dis
       subst (λ (a : Answer). SectorsCleared disk free image a.image) (sym (cleared_once disk laws image large o))
       (sectors_cleared disk laws free image large)
 
-  pub counted : (clearing d64_medium disk image).outcome ≡ Cleared (free_count disk (d64_sector image)) (data_count disk (d64_sector image))
+  pub counted : (clearing d64_medium disk image).outcome ≡ cleared (free_count disk (d64_sector image)) (data_count disk (d64_sector image))
   counted =
       ap (λ (a : Answer). a.outcome) (cleared_once disk laws image large o)
-      ∙ ap₂ Cleared (free-counted disk laws free image large) (data_counted disk laws free image large)
+      ∙ ap₂ cleared (free-counted disk laws free image large) (data_counted disk laws free image large)
 
   -- ---- once more: what is kept reads as before, so the chain and the BAM are the same
-  same_read : (t s : ℕ) → is_address disk t s ≡ true → marked (chain_of disk (d64_sector image)).marks t s ≡ true
+  same_read : (t s : ℕ) → is_address disk t s ≡ true → marked (marks_of disk.marks (chain_of disk (d64_sector image))) t s ≡ true
       → d64_sector image t s ≡ d64_sector work.image t s
   same_read t s a m =
       sym (kept disk laws free image large t s (on_tracks disk laws t s a) (λ _. rw m (and-false (disk.free (d64_sector image) t s))))
@@ -209,7 +210,7 @@ module _ (disk : Disk) (laws : InD64 disk) (image : List ℕ) (large : Large dis
 
   free_still : free_on disk (d64_sector work.image) ≡ free
   free_still =
-      ap₂ (λ (test : ℕ → ℕ → Bool) (c : Chain). λ (t s : ℕ). test t s && not (marked c.marks t s))
+      ap₂ (λ (test : ℕ → ℕ → Bool) (c : Result Chain Refusal). λ (t s : ℕ). test t s && not (marked (marks_of disk.marks c) t s))
       (sym (laws.bam_kept (d64_sector image) (d64_sector work.image) kept_read)) chain_still
 
   quiet : (t s : ℕ) → 0 < t → t ≤ disk.last → s < disk.sectors t → free t s ≡ true → has_data (d64_sector work.image t s) ≡ false
@@ -222,10 +223,10 @@ module _ (disk : Disk) (laws : InD64 disk) (image : List ℕ) (large : Large dis
 
   cleared_again : clearing d64_medium disk work.image ≡ finish second
   cleared_again =
-      cleared_once disk laws work.image large_still (ap (λ (c : Chain). c.ok) chain_still ∙ o)
+      cleared_once disk laws work.image large_still (ap (λ (c : Result Chain Refusal). is_ok c) chain_still ∙ o)
       ∙ ap (λ (test : ℕ → ℕ → Bool). finish (tracks_done d64_medium disk.sectors test disk.last (untouched work.image))) free_still
 
-  again : clearing d64_medium disk work.image ≡ record { image = work.image; outcome = Cleared work.free 0 }
+  again : clearing d64_medium disk work.image ≡ record { image = work.image; outcome = cleared work.free 0 }
   again =
       let q = tracks_quiet d64_medium disk.sectors free disk.last (untouched work.image) quiet in
       let c : second.free ≡ work.free
@@ -236,7 +237,7 @@ module _ (disk : Disk) (laws : InD64 disk) (image : List ℕ) (large : Large dis
 pub clearing-length : (disk : Disk) → InD64 disk → (image : List ℕ) → Large disk.highest image
     → length (clearing d64_medium disk image).image ≡ length image
 clearing-length disk laws image large =
-    by_test (length (clearing d64_medium disk image).image ≡ length image) (chain_of disk (d64_sector image)).ok
+    by_test (length (clearing d64_medium disk image).image ≡ length image) (is_ok (chain_of disk (d64_sector image)))
     (λ o. (only-free disk laws image large o).same_length)
     (λ o. ap (λ (a : Answer). length a.image) (refused_chain disk laws image large o))
 
@@ -247,6 +248,6 @@ OnceMore clears a = clears a.image ≡ record { image = a.image; outcome = once_
 pub clearing_twice : (disk : Disk) → InD64 disk → (image : List ℕ) → Large disk.highest image
     → OnceMore (clearing d64_medium disk) (clearing d64_medium disk image)
 clearing_twice disk laws image large =
-    by_test (OnceMore (clearing d64_medium disk) (clearing d64_medium disk image)) (chain_of disk (d64_sector image)).ok
+    by_test (OnceMore (clearing d64_medium disk) (clearing d64_medium disk image)) (is_ok (chain_of disk (d64_sector image)))
     (λ o. subst (OnceMore (clearing d64_medium disk)) (sym (cleared_once disk laws image large o)) (again disk laws image large o))
     (λ o. let e = refused_chain disk laws image large o in subst (OnceMore (clearing d64_medium disk)) (sym e) e)

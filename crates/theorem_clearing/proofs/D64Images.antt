@@ -2,6 +2,7 @@
 --     d64_only-free   each free sector is zeros afterwards, and everything else is as it was
 --     d64_counted     both counts, exactly: the free sectors, and those of them that had data in the image as it came
 --     twice           clearing once more changes nothing, and answers the same free count
+use Rattle.std.specs.Prelude.{Option, Some, None}
 use mathlib.Core.Path.{◌≡◌, refl, sym, ap, ◌∙◌, subst}
 use mathlib.Core.Bool.{true}
 use mathlib.Core.List.{List}
@@ -11,8 +12,6 @@ use lib.ListN.{length, length-set}
 use borrow.Author.Tests.{le-leb, lt-ltb}
 use Rattle.base.specs.Refusals.{wrong_image}
 use Rattle.base.specs.declared.Sector.{Sector}
-use Rattle.geometry.specs.declared.TrackCount.{TrackCount}
-use Rattle.geometry.specs.declared.TrackCount.TheVariants.{Tracks, NoD64}
 use Rattle.geometry.specs.D64.{tracks_of}
 use Rattle.geometry.proofs.ZoneLaws.{sectors_of_lem}
 use Rattle.geometry.proofs.D64Laws.{d64_facts}
@@ -22,8 +21,8 @@ use Rattle.reclaim_directory.specs.Marks.{mark_place, marked}
 use Rattle.reclaim_directory.specs.Disk.{Disk, disk1541, links_up_to, is_address, marks_at_first, entry_free}
 use Rattle.reclaim_directory.specs.Chains.{chain_of}
 use Rattle.reclaim_directory.proofs.MarkLaws.{Fits}
-use Rattle.reclaim.specs.declared.Outcome.TheVariants.{Cleared}
-use Rattle.reclaim.specs.Clearing.{Answer, refuse, free_on, clearing}
+use Rattle.std.specs.Prelude.{is_ok}
+use Rattle.reclaim.specs.Clearing.{Answer, refuse, cleared, free_on, clearing}
 use Rattle.reclaim.specs.Images.{by_tracks, cleared_d64}
 use Rattle.theorem_clearing.specs.Meaning.{SectorsCleared, free_count, data_count}
 use Rattle.theorem_clearing.proofs.D64Clearing.{Large, InD64, only-free, counted, clearing-length, OnceMore, clearing_twice}
@@ -58,7 +57,7 @@ module _ (n : ℕ) (few : 35 ≤ n) (most : n ≤ 42) where
       }
 
 -- an image whose size is a D64's
-module _ (image : List ℕ) (n : ℕ) (size : tracks_of (length image) ≡ Tracks n) where
+module _ (image : List ℕ) (n : ℕ) (size : tracks_of (length image) ≡ Some n) where
   abbrev disk_of : Disk
   disk_of = links_up_to n disk1541
 
@@ -72,26 +71,26 @@ module _ (image : List ℕ) (n : ℕ) (size : tracks_of (length image) ≡ Track
   unfolding cleared_d64 by_tracks
   by_size = rw size
 
-  module _ (o : (chain_of disk_of (d64_sector image)).ok ≡ true) where
+  module _ (o : is_ok (chain_of disk_of (d64_sector image)) ≡ true) where
     pub d64_only-free : SectorsCleared disk_of (free_on disk_of (d64_sector image)) image (cleared_d64 image).image
     d64_only-free =
         subst (λ (a : Answer). SectorsCleared disk_of (free_on disk_of (d64_sector image)) image a.image) (sym by_size)
         (only-free disk_of laws image large o)
 
-    pub d64_counted : (cleared_d64 image).outcome ≡ Cleared (free_count disk_of (d64_sector image)) (data_count disk_of (d64_sector image))
+    pub d64_counted : (cleared_d64 image).outcome ≡ cleared (free_count disk_of (d64_sector image)) (data_count disk_of (d64_sector image))
     d64_counted = ap (λ (a : Answer). a.outcome) by_size ∙ counted disk_of laws image large o
 
-by_count : (image : List ℕ) (c : TrackCount) → tracks_of (length image) ≡ c → OnceMore cleared_d64 (cleared_d64 image)
+by_count : (image : List ℕ) (c : Option ℕ) → tracks_of (length image) ≡ c → OnceMore cleared_d64 (cleared_d64 image)
 unfolding cleared_d64 by_tracks
-by_count image NoD64 e = subst (OnceMore cleared_d64) (sym known) known
+by_count image None e = subst (OnceMore cleared_d64) (sym known) known
   where
     known : cleared_d64 image ≡ refuse image wrong_image
     known = rw e
-by_count image (Tracks n) e =
+by_count image (Some n) e =
     let w = laws image n e in
     let g = large image n e in
     let after = (clearing d64_medium (links_up_to n disk1541) image).image in
-    let size : tracks_of (length after) ≡ Tracks n = ap tracks_of (clearing-length (links_up_to n disk1541) w image g) ∙ e in
+    let size : tracks_of (length after) ≡ Some n = ap tracks_of (clearing-length (links_up_to n disk1541) w image g) ∙ e in
     subst (OnceMore cleared_d64) (sym (by_size image n e)) (by_size after n size ∙ clearing_twice (links_up_to n disk1541) w image g)
 
 pub twice : (image : List ℕ) → OnceMore cleared_d64 (cleared_d64 image)

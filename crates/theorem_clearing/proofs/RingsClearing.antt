@@ -1,7 +1,7 @@
 -- Clearing an image of rings, G64 or NIB: the rings of the tracks that are cleared may change, and nothing beside them.
 --     g64_cleared, nib_cleared    so it is for a G64 and for a NIB image, by the table as it came
 use mathlib.Core.Path.{◌≡◌, refl, sym, ap, ◌∙◌, subst}
-use mathlib.Core.Logic.{◌⊎◌, ⊎_elim}
+use mathlib.Core.Logic.{⊎_elim}
 use mathlib.Core.List.{List}
 use Prim.Native.Nat.{ℕ, ◌+◌, ◌≤◌, ◌<◌}
 use native.Mathlib.Nat.{add-zero}
@@ -10,15 +10,15 @@ use lib.ListN.{length, get_or, take, drop, replicate, length-take, length-drop}
 use lib.Seq.{get_or-drop}
 use Rattle.base.specs.Lists.{on_part}
 use Rattle.base.proofs.Parts.{on-length, on-before}
-use Rattle.base.proofs.Picks.{pick_ind}
 use Rattle.scan.specs.declared.SectorRecord.{SectorRecord}
 use Rattle.base.specs.declared.Sector.{Sector}
 use Rattle.sector.specs.Rules.{unique, consistent}
 use Rattle.sector.specs.Replacing.{replaced_by}
 use Rattle.sector.proofs.SectorLaws.{replaced_length}
-use Rattle.image_rings.specs.declared.Place.{Place}
-use Rattle.image_rings.specs.declared.Place.TheVariants.{At, Absent, Wrong}
-use Rattle.image_rings.specs.declared.Table.{Table}
+use Rattle.std.specs.Prelude.{Option, Some, None, Result, Ok, Err}
+use Rattle.base.specs.declared.Refusal.{Refusal}
+use Rattle.image_rings.specs.declared.Span.{Span}
+use Rattle.image_rings.specs.declared.Rings.{Rings}
 use Rattle.image_rings.specs.Rings.{ring_place, with_ring}
 use Rattle.image_g64.specs.G64.{g64_table}
 use Rattle.image_nib.specs.Nib.{nib_table}
@@ -28,10 +28,10 @@ use Rattle.image_g64.proofs.G64Inside.{g64_inside}
 use Rattle.image_nib.proofs.NibLaws.{nib_inside}
 use Rattle.image_sector.specs.Media.{rings_medium}
 use Rattle.reclaim_directory.specs.Disk.{Disk, disk1541}
-use Rattle.reclaim.specs.Clearing.{Answer, clearing}
+use Rattle.reclaim.specs.Clearing.{clearing}
 use Rattle.reclaim.specs.Images.{by_table, cleared_g64, cleared_nib}
 use Rattle.reclaim.proofs.Counted.{clearing-holds}
-use Rattle.theorem_clearing.specs.Meaning.{Beside, RingsCleared}
+use Rattle.theorem_clearing.specs.Meaning.{rings_of, Beside, RingsCleared}
 
 -- a ring that keeps its length leaves the image its own, and every byte beside it
 module _ (f : List ℕ → List ℕ) (keeps : (ring : List ℕ) → length (f ring) ≡ length ring) (image : List ℕ) where
@@ -40,10 +40,9 @@ module _ (f : List ℕ → List ℕ) (keeps : (ring : List ℕ) → length (f ri
       let n : length (take long (drop start image)) ≡ long = simp (length-take, length-drop) (omega arith) in
       keeps (take long (drop start image)) ∙ n
 
-  with_length : (p : Place) → Inside (length image) p → length (with_ring f image p) ≡ length image
-  with_length Absent h = refl
-  with_length Wrong h = refl
-  with_length (At start long) h = on-length start long f image h (whole start long h)
+  with_length : (p : Option Span) → Inside (length image) p → length (with_ring f image p) ≡ length image
+  with_length None h = refl
+  with_length (Some ring) h = on-length ring.start ring.length f image h (whole ring.start ring.length h)
 
   behind : (start long i : ℕ) → start + long ≤ length image → start + long ≤ i → get_or (on_part start long f image) i 0 ≡ get_or image i 0
   behind start long i h l =
@@ -51,48 +50,47 @@ module _ (f : List ℕ → List ℕ) (keeps : (ring : List ℕ) → length (f ri
       let z = add-zero i in
       rw z at (sym (get_or-drop i (on_part start long f image) 0 0) ∙ e ∙ get_or-drop i image 0 0)
 
-  with_beside : (p : Place) → Inside (length image) p → (i : ℕ) → Beside p i → get_or (with_ring f image p) i 0 ≡ get_or image i 0
-  with_beside Absent h i b = refl
-  with_beside Wrong h i b = refl
-  with_beside (At start long) h i b =
-      ⊎_elim (λ l. on-before start long f image h (whole start long h) i 0 l) (λ l. behind start long i h l) b
+  with_beside : (p : Option Span) → Inside (length image) p → (i : ℕ) → Beside p i → get_or (with_ring f image p) i 0 ≡ get_or image i 0
+  with_beside None h i b = refl
+  with_beside (Some ring) h i b =
+      ⊎_elim (λ l. on-before ring.start ring.length f image h (whole ring.start ring.length h) i 0 l)
+      (λ l. behind ring.start ring.length i h l) b
 
-module _ (rule : List SectorRecord → Sector) (table : Table) (disk : Disk) (image : List ℕ) (all : AllInside (length image) table) where
+module _ (rule : List SectorRecord → Sector) (rings : Rings) (disk : Disk) (image : List ℕ) (all : AllInside (length image) rings) where
   abbrev Beyond : ℕ → Type 0
-  Beyond i = (t : ℕ) → 0 < t → t ≤ disk.last → Beside (ring_place table t) i
+  Beyond i = (t : ℕ) → 0 < t → t ≤ disk.last → Beside (ring_place rings t) i
 
-  stays : (t s : ℕ) → 0 < t → t ≤ disk.last → (l : List ℕ) → RingsCleared disk table image l
-      → RingsCleared disk table image ((rings_medium rule table).zeroed t s l)
+  stays : (t s : ℕ) → 0 < t → t ≤ disk.last → (l : List ℕ) → RingsCleared disk rings image l
+      → RingsCleared disk rings image ((rings_medium rule rings).zeroed t s l)
   stays t s p h l so =
       let f = replaced_by rule t s (replicate 256 0) in
       let keeps : (ring : List ℕ) → length (f ring) ≡ length ring = λ ring. replaced_length rule t s (replicate 256 0) ring in
-      let in-l : Inside (length l) (ring_place table t)
-      = subst (λ (n : ℕ). Inside n (ring_place table t)) (sym so.same_length) (track-inside (length image) table t all) in
+      let in-l : Inside (length l) (ring_place rings t)
+      = subst (λ (n : ℕ). Inside n (ring_place rings t)) (sym so.same_length) (track-inside (length image) rings t all) in
       record {
-        same_length = with_length f keeps l (ring_place table t) in-l ∙ so.same_length;
-        beside = λ i b. with_beside f keeps l (ring_place table t) in-l i (b t p h) ∙ so.beside i b;
+        same_length = with_length f keeps l (ring_place rings t) in-l ∙ so.same_length;
+        beside = λ i b. with_beside f keeps l (ring_place rings t) in-l i (b t p h) ∙ so.beside i b;
       }
 
-  untouched_so : RingsCleared disk table image image
+  untouched_so : RingsCleared disk rings image image
   untouched_so = record { same_length = refl; beside = λ i b. refl }
 
-  pub rings_cleared : RingsCleared disk table image (clearing (rings_medium rule table) disk image).image
+  pub rings_cleared : RingsCleared disk rings image (clearing (rings_medium rule rings) disk image).image
   rings_cleared =
-      clearing-holds (rings_medium rule table) disk (RingsCleared disk table image) image (λ t s p h b l so. stays t s p h l so) untouched_so
+      clearing-holds (rings_medium rule rings) disk (RingsCleared disk rings image) image (λ t s p h b l so. stays t s p h l so) untouched_so
 
 -- by a table, refused or not
-by_table_lem : (rule : List SectorRecord → Sector) (table : Table) (image : List ℕ) → AllInside (length image) table
-    → RingsCleared disk1541 table image (by_table rule image table).image
+by_table_lem : (rule : List SectorRecord → Sector) (table : Result Rings Refusal) (image : List ℕ)
+    → ((rings : Rings) → table ≡ Ok rings → AllInside (length image) rings)
+    → RingsCleared disk1541 (rings_of table) image (by_table rule image table).image
 unfolding by_table
-by_table_lem rule table image all =
-    pick_ind (λ (a : Answer). RingsCleared disk1541 table image a.image) table.ok _ _
-    (λ o. rings_cleared rule table disk1541 image all)
-    (λ o. untouched_so rule table disk1541 image all)
+by_table_lem rule (Ok rings) image all = rings_cleared rule rings disk1541 image (all rings refl)
+by_table_lem rule (Err why) image all = record { same_length = refl; beside = λ i b. refl }
 
-pub g64_cleared : (image : List ℕ) → RingsCleared disk1541 (g64_table image) image (cleared_g64 image).image
+pub g64_cleared : (image : List ℕ) → RingsCleared disk1541 (rings_of (g64_table image)) image (cleared_g64 image).image
 unfolding cleared_g64
 g64_cleared image = by_table_lem unique (g64_table image) image (g64_inside image)
 
-pub nib_cleared : (image : List ℕ) → RingsCleared disk1541 (nib_table image) image (cleared_nib image).image
+pub nib_cleared : (image : List ℕ) → RingsCleared disk1541 (rings_of (nib_table image)) image (cleared_nib image).image
 unfolding cleared_nib
 nib_cleared image = by_table_lem consistent (nib_table image) image (nib_inside image)

@@ -6,7 +6,7 @@
 use mathlib.Core.Path.{◌≡◌, refl, sym, ap, ap₂, ◌∙◌, subst}
 use mathlib.Core.Logic.{◌≢◌, ◌⊎◌, inl, inr}
 use mathlib.Core.Bool.{Bool}
-use Prim.Native.Nat.{ℕ, zero, suc, ◌+◌, ◌-◌, ◌*◌, ◌%◌, ◌≤◌, ◌<◌}
+use Prim.Native.Nat.{ℕ, suc, ◌+◌, ◌-◌, ◌*◌, ◌%◌, ◌≤◌, ◌<◌}
 use native.Mathlib.Omega.{arith}
 use native.Mathlib.Decide.{dec_lt, ℕ_discrete}
 use lib.Dec.{T}
@@ -18,7 +18,7 @@ use Rattle.gcr.proofs.SymbolFacts.{zero_sym}
 use Rattle.gcr.proofs.DecodeLaws.{nib_at, byte_at}
 use Rattle.track_build.proofs.Unrolled.{Track, at-header, at_block, after, place-run}
 use Rattle.track_build.proofs.Meaning.{pair_at, Meaning}
-use Rattle.scan_sync.specs.declared.SyncEnd.TheVariants.{At}
+use Rattle.std.specs.Prelude.{Some}
 use Rattle.scan_sync.specs.Sync.{sync_end}
 use Rattle.scan_visit.specs.Visit.{visit, next_bit}
 use Rattle.scan.specs.declared.SectorRecord.{SectorRecord}
@@ -91,15 +91,15 @@ module _ (B : ℕ → ℕ) (st ln : ℕ → ℕ) (hh hd : ℕ → Bool) (hn dn :
           }
 
           -- between the header and its data block there is no other sync end
-          pub find_d : sync_end D (st k + 40 + 80) 768 ≡ At (st k + 232)
+          pub find_d : sync_end D (st k + 40 + 80) 768 ≡ Some (st k + 232)
           find_d = go (sync_complete D 0 768 (st k + 40 + 80) (st k + 232) (sync-d behind) (omega arith) (omega arith) (omega arith))
             where
-              go : (d : ℕ) × (sync_end D (st k + 40 + 80) 768 ≡ At d) × (d ≤ st k + 232) → sync_end D (st k + 40 + 80) 768 ≡ At (st k + 232)
+              go : (d : ℕ) × (sync_end D (st k + 40 + 80) 768 ≡ Some d) × (d ≤ st k + 232) → sync_end D (st k + 40 + 80) 768 ≡ Some (st k + 232)
               go (d, e, l) = here (found-sync D (st k + 40 + 80) 768 d e) (ℕ_discrete d (st k + 232)) (dec_lt d (st k + 192))
                 where
                   here : SyncAt D d × (st k + 40 + 80 + 10 ≤ d) × (d < st k + 40 + 80 + 768) → Dec (d ≡ st k + 232)
-                      → Dec (d < st k + 192) → sync_end D (st k + 40 + 80) 768 ≡ At (st k + 232)
-                  here fd (yes f) x = e ∙ ap At f
+                      → Dec (d < st k + 192) → sync_end D (st k + 40 + 80) 768 ≡ Some (st k + 232)
+                  here fd (yes f) x = e ∙ ap Some f
                   here (sd, l1, l2) (no f) (yes g) =
                       let o : ℕ = d - st k - 2 in
                       let p1 : D (d - 2) ≡ 1 = (not-zero B st ln hh hd hn dn tr N a n wide (d - 2)

@@ -1,6 +1,6 @@
 -- Demand 3: a built track, one stretch of it forced to zero, read from any bit: each untouched sector is given with its
 -- payload, a hit one with its own payload or not at all, one with code 2, 3, 4, 5 or 9 not at all.
-use Rattle.std.specs.Prelude.{ℕ, ◌+◌, ◌*◌, ◌≤◌, ◌<◌, ◌≡◌, ◌⊎◌, Bool, true, false, List, T, get_or}
+use Rattle.std.specs.Prelude.{ℕ, ◌+◌, ◌*◌, ◌<◌, ◌≡◌, ◌⊎◌, Bool, true, false, List, T, get_or}
 use Rattle.geometry.specs.Zones.{zone_of, sectors_of, capacity_of, slot_start}
 use Rattle.ring.specs.Bit.{IsRing}
 use Rattle.ring.specs.Stretch.{in_stretch, force_to_zero}

@@ -2,6 +2,7 @@
 // forced to zero, and read from a bit (specs/Survival).
 ghost use Rattle.theorem_dropout.specs.Survival.{dropout_of, ReadAfterDropout};
 
+use base::Refusal;
 use track_read::TrackRead;
 
 // The track is built in front of `ring`, `length` bits of it from bit `place` on are forced to zero, and it is read from
@@ -18,28 +19,28 @@ pub fn read_after_dropout(
     ring: &mut [u8],
     out: &mut [u8],
     statuses: &mut [u8],
-) -> TrackRead
+) -> Result<TrackRead, Refusal>
     ensures { ReadAfterDropout
         (dropout_of track payloads.now codes.now id1 id2 place «length» start)
         ring.old out.old statuses.old
         ring.new out.new statuses.new result }
 {
     if payloads.len() % 256 != 0 {
-        return TrackRead::Refused(base::WRONG_SUM);
+        return Err(Refusal::WrongSum);
     }
     let capacity = geometry::track_capacity(track);
     if ring.len() < capacity {
-        return TrackRead::Refused(base::NO_ROOM);
+        return Err(Refusal::NoRoom);
     }
     let count = geometry::sectors_per_track(track) as usize;
     if out.len() < 256 * count {
-        return TrackRead::Refused(base::NO_ROOM);
+        return Err(Refusal::NoRoom);
     }
     if statuses.len() < count {
-        return TrackRead::Refused(base::NO_ROOM);
+        return Err(Refusal::NoRoom);
     }
     let part = &mut ring[0..capacity];
-    track_build::build_track_with_errors(track, payloads, codes, id1, id2, part);
-    ring::force_zero(part, place, length);
+    track_build::build_track_with_errors(track, payloads, codes, id1, id2, part)?;
+    ring::force_zero(part, place, length)?;
     track_read::decode_track_from(part, track, start, out, statuses)
 }

@@ -2,22 +2,22 @@
 --     ring_taken    the ring of a track
 --     entry_is      where the ring of each half-track is
 use mathlib.Core.Path.{◌≡◌, refl, sym, ap, ◌∙◌}
-use mathlib.Core.Bool.{Bool, true, false, ◌&&◌}
+use mathlib.Core.Bool.{Bool, true, false, ◌&&◌, not}
 use mathlib.Core.List.{List, ◌++◌, append_assoc}
 use Prim.Native.Nat.{ℕ, ◌+◌, ◌-◌, ◌*◌, ◌/◌, ◌%◌, ◌≤◌, ◌<◌}
 use native.Mathlib.Omega.{arith}
 use lib.Dec.{eqb, ltb}
 use lib.ListN.{length, get_or, take, drop, replicate, get_or-append}
 use lib.Seq.{take_at, drop-drop, get_or-drop}
+use Rattle.std.specs.Prelude.{Some, None, Ok}
 use Rattle.base.specs.Choice.{pick}
 use Rattle.base.specs.Bytes.{two_bytes}
-use Rattle.base.proofs.Tests.{pick_lt, lt_of}
+use Rattle.base.proofs.Tests.{pick_lt, lt_of, leb_yes, ltb_yes, eqb_no}
 use Rattle.base.proofs.Picks.{and_right}
 use Rattle.geometry.specs.Zones.{zone_of, capacity_of}
 use Rattle.geometry.proofs.ZoneLaws.{zone_lt, sectors_of_lem, slot_end}
-use Rattle.image_rings.specs.declared.Place.TheVariants.{At, Absent}
+use Rattle.image_rings.specs.Rings.{span}
 use Rattle.image_g64.specs.G64.{g64_entry, ring_at, offset_of}
-use Rattle.image_g64.proofs.G64Laws.{entry_absent, entry_there, ring-found}
 use Rattle.g64_write.specs.Master.{low_first, track_on, of_half, entry_of, master_of, entry_start, entry_size, largest_ring}
 use Rattle.theorem_masters.specs.Masters.{ring_in}
 use Rattle.theorem_masters.proofs.Bytes.{low_long, two_back, four_back}
@@ -68,13 +68,20 @@ module _ (d64 : List ℕ) (n : ℕ) where
         (omega (arith, track-long d64 n t, capacity_small t))
         ∙ track-long d64 n t
 
-    ring_is : ring_at image (entry_start t) ≡ At (entry_start t + 2) (capacity_of t)
+    ring_is : ring_at image (entry_start t) ≡ Ok (Some (span (entry_start t + 2) (capacity_of t)))
+    unfolding ring_at
     ring_is =
         let l = master_long d64 n in
         let c = capacity_small t in
         let s = capacity_some t in
-        sym (ring-found image (entry_start t) (omega arith) (capacity_of t) (sym length_is) (λ z. omega arith) largest_ring
-        (sym (largest_is d64 n)) (omega arith) (omega arith))
+        rw (
+          length_is,
+          largest_is d64 n,
+          leb_yes (entry_start t + 2) (length image) (omega arith),
+          leb_yes 1 (capacity_of t) (omega arith),
+          leb_yes (capacity_of t) largest_ring (omega arith),
+          leb_yes (entry_start t + 2 + capacity_of t) (length image) (omega arith),
+        )
 
   -- ---- each half-track
   module _ (few : n ≤ 42) (h : ℕ) (half : h < 84) where
@@ -83,16 +90,14 @@ module _ (d64 : List ℕ) (n : ℕ) where
         four_back image (12 + 4 * h) (of_half entry_start n h) (offset_bytes d64 n h half)
         (pick_lt (eqb (h % 2) 0 && ltb (h / 2) n) (entry_start (h / 2 + 1)) 0 4294967296 (omega arith) (omega arith))
 
-    pub entry_is : g64_entry image h ≡ ring_in n h
-    entry_is = by (eqb (h % 2) 0 && ltb (h / 2) n) refl
+    pub entry_is : g64_entry image h ≡ Ok (ring_in n h)
+    unfolding g64_entry
+    entry_is = rw (count_is d64 n, ltb_yes h 84 half, offset_is) (by (eqb (h % 2) 0 && ltb (h / 2) n) refl)
       where
         by : (b : Bool) → (eqb (h % 2) 0 && ltb (h / 2) n) ≡ b
-            → g64_entry image h ≡ pick b (At (entry_start (h / 2 + 1) + 2) (capacity_of (h / 2 + 1))) Absent
+            → pick (not (eqb (pick b (entry_start (h / 2 + 1)) 0) 0)) (ring_at image (pick b (entry_start (h / 2 + 1)) 0)) (Ok None)
+            ≡ Ok (pick b (Some (span (entry_start (h / 2 + 1) + 2) (capacity_of (h / 2 + 1)))) None)
         by true e =
-            let o : entry_start (h / 2 + 1) ≡ offset_of image h = sym (offset_is ∙ ap (λ (c : Bool). pick c (entry_start (h / 2 + 1)) 0) e) in
             let l : h / 2 < n = lt_of (h / 2) n (and_right (eqb (h % 2) 0) (ltb (h / 2) n) e) in
-            sym (entry_there image h 84 (sym (count_is d64 n)) half (entry_start (h / 2 + 1)) o (λ z. omega arith))
-            ∙ ring_is (h / 2 + 1) (omega arith) (omega arith)
-        by false e =
-            let o : 0 ≡ offset_of image h = sym (offset_is ∙ ap (λ (c : Bool). pick c (entry_start (h / 2 + 1)) 0) e) in
-            sym (entry_absent image h 84 (sym (count_is d64 n)) half 0 o refl)
+            rw (eqb_no (entry_start (h / 2 + 1)) 0 (λ z. omega arith)) (ring_is (h / 2 + 1) (omega arith) (omega arith))
+        by false e = refl

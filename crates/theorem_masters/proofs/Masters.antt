@@ -7,16 +7,19 @@ use mathlib.Core.List.{List}
 use Prim.Native.Nat.{ℕ, ◌*◌, ◌≤◌, ◌<◌}
 use native.Mathlib.Omega.{arith}
 use lib.ListN.{length, get_or}
+use Rattle.std.specs.Prelude.{Option, Result}
+use Rattle.std.specs.Result.{result_unwrap_or}
 use Rattle.base.specs.Refusals.{no_record}
+use Rattle.base.specs.declared.Refusal.{Refusal}
 use Rattle.base.specs.Sectors.{good, refused}
 use Rattle.geometry.specs.D64.{sectors_to}
 use Rattle.geometry.proofs.D64Laws.{d64_facts}
 use Rattle.track_build.specs.Blocks.{spoils}
 use Rattle.sector.specs.declared.Rule.TheVariants.{Unique}
 use Rattle.sector.specs.Rules.{unique, read_by}
-use Rattle.image_rings.specs.declared.Place.{Place}
-use Rattle.image_rings.specs.declared.Table.{Table}
-use Rattle.image_rings.specs.Rings.{ring_place}
+use Rattle.image_rings.specs.declared.Span.{Span}
+use Rattle.image_rings.specs.declared.Rings.{Rings}
+use Rattle.image_rings.specs.Rings.{no_rings, ring_place}
 use Rattle.image_d64.specs.D64.{OnTracks, error_byte, d64_sector}
 use Rattle.image_d64.proofs.D64Sectors.{sector_reads}
 use Rattle.image_sector.specs.Media.{read_at}
@@ -33,8 +36,9 @@ module _ (d64 : List ℕ) (n : ℕ) (few : n ≤ 42) (large : sectors_to n * 256
   -- a sector of the master, on the ring of its track
   read_is : from_master d64 n t s ≡ read_by unique (track_on d64 n t) t s
   read_is =
-      ap (λ (p : Place). read_at unique p (master_of d64 n) t s)
-      (ap (λ (a : Table). ring_place a t) (table_is d64 n few) ∙ place_is n t few on.some on.highest)
+      ap (λ (p : Option Span). read_at unique p (master_of d64 n) t s)
+      (ap (λ (a : Result Rings Refusal). ring_place (result_unwrap_or a no_rings) t) (table_is d64 n few)
+      ∙ place_is n t few on.some on.highest)
       ∙ ap (λ (ring : List ℕ). read_by unique ring t s) (ring_taken d64 n t on.some on.highest)
 
   module _ (bytes : (i : ℕ) → get_or d64 i 0 < 256) where

@@ -10,8 +10,7 @@ use Rattle.base.specs.Choice.{pick}
 use Rattle.base.proofs.Tests.{eqb_yes, eq_of}
 use Rattle.gcr.specs.Places.{decode_at}
 use Rattle.gcr.proofs.DecodeLaws.{byte_at}
-use Rattle.scan_sync.specs.declared.SyncEnd.{SyncEnd}
-use Rattle.scan_sync.specs.declared.SyncEnd.TheVariants.{At}
+use Rattle.std.specs.Prelude.{Option, Some}
 use Rattle.scan_sync.specs.Sync.{sync_end}
 use Rattle.scan_visit.specs.Visit.{DataFound, HeaderFound, BadHeader, TrueHeader, IllegalHeader, NoHeader, FalseHeader}
 use Rattle.scan_visit.specs.Visit.{data_at, by_sync, data_for, by_header, visit}
@@ -48,13 +47,13 @@ module _ (x : ℕ → ℕ) (track h : ℕ) where
       by (BadHeader (FalseHeader s)) w = by_false s w (eqb s j) refl
       by (TrueHeader s i k f) w = by_true s i k f w (eqb s j) refl
 
-  pub said_true : (d : ℕ) → Header x track h → sync_end x (h + 80) 768 ≡ At d
+  pub said_true : (d : ℕ) → Header x track h → sync_end x (h + 80) 768 ≡ Some d
       → said_of (byte_at x h 2) (visit x track h) ≡ said_by_data (data_at x d)
   unfolding visit
   said_true d hd e =
       ap (said_by (byte_at x h 2)) (header← x track h (data_for x h) hd)
       ∙ ap (λ (b : Bool). pick b (said_by_data (data_for x h)) 2) (eqb_yes (byte_at x h 2) (byte_at x h 2) refl)
-      ∙ ap (λ (o : SyncEnd). said_by_data (by_sync x o)) e
+      ∙ ap (λ (o : Option ℕ). said_by_data (by_sync x o)) e
 
   pub said_false : FalseSum x track h → said_of (byte_at x h 2) (visit x track h) ≡ 9
   unfolding visit

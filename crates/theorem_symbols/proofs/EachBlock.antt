@@ -1,4 +1,4 @@
--- At each visit the bad symbol tells of the blocks that the visit looked at.
+-- Some each visit the bad symbol tells of the blocks that the visit looked at.
 --     reduced     a symbol is the same at a place and at its ring bit
 --     first_bad_lem   where decoding gives an index, the symbol there is the first bad one
 --     all_legal   where decoding gives bytes, there is none
@@ -19,8 +19,7 @@ use Rattle.gcr.specs.Symbols.{is_legal, Decoded, Bytes, IllegalAt}
 use Rattle.gcr.specs.Places.{symbol_at, decode_at}
 use Rattle.gcr.proofs.DecodeLaws.{nib_at, decode_bytes, decode_illegal}
 use Rattle.ring.specs.Bit.{bits, bit_at}
-use Rattle.scan_sync.specs.declared.SyncEnd.{SyncEnd}
-use Rattle.scan_sync.specs.declared.SyncEnd.TheVariants.{At, Nothing}
+use Rattle.std.specs.Prelude.{Option, Some, None}
 use Rattle.scan_sync.specs.Sync.{sync_end}
 use Rattle.scan_visit.specs.Visit.{DataFound, BadData, AnotherHeader, GoodData, OtherMarker, FalseData}
 use Rattle.scan_visit.specs.Visit.{HeaderFound, BadHeader, TrueHeader, NoHeader, FalseHeader}
@@ -100,9 +99,9 @@ module _ (ring : List ℕ) where
   told-search : (h : ℕ) → Told ring (data_looked (data_for x h)) (bad_in_data (bits ring) (data_for x h))
   told-search h = by (sync_end x (h + 80) 768)
     where
-      by : (o : SyncEnd) → Told ring (data_looked (by_sync x o)) (bad_in_data (bits ring) (by_sync x o))
-      by Nothing = tt
-      by (At d) = told_data d
+      by : (o : Option ℕ) → Told ring (data_looked (by_sync x o)) (bad_in_data (bits ring) (by_sync x o))
+      by None = tt
+      by (Some d) = told_data d
 
   -- ---- a header, and the data search behind it
   told-header : (track h : ℕ) (f : DataFound) (o : Decoded) → decode_at x h 8 ≡ o → Told ring (data_looked f) (bad_in_data (bits ring) f)

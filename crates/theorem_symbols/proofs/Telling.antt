@@ -5,11 +5,13 @@
 use mathlib.Core.Path.{◌≡◌, refl, sym, ap, ◌∙◌}
 use mathlib.Core.List.{List, [], ◌∷◌, ◌++◌}
 use Prim.Native.Nat.{ℕ}
+use Rattle.std.specs.Prelude.{Option, Some, None}
+use Rattle.std.specs.Option.{option_or}
 use Rattle.ring.specs.Bit.{bits}
 use Rattle.scan_visit.specs.Visit.{Visit}
 use Rattle.scan.specs.declared.BadSymbol.{BadSymbol}
-use Rattle.scan.specs.declared.BadSymbol.TheVariants.{NoneMet, InHeader, InData}
-use Rattle.scan.specs.BadSymbols.{bad_at, or_else, first_bad}
+use Rattle.scan.specs.declared.BadSymbol.TheVariants.{InHeader, InData}
+use Rattle.scan.specs.BadSymbols.{bad_at, first_bad}
 use Rattle.scan.proofs.EachVisit.{EveryVisit}
 use Rattle.theorem_symbols.specs.Looked.{Block, header_block, data_block, searched, looked, Legal, AllLegal, Pointed}
 
@@ -18,10 +20,10 @@ append_assoc [] ys zs = refl
 append_assoc (x ∷ xs) ys zs = ap (λ (l : List Block). x ∷ l) (append_assoc xs ys zs)
 
 module _ (ring : List ℕ) where
-  abbrev pub Told : List Block → BadSymbol → Type 0
-  Told blocks NoneMet = AllLegal ring blocks
-  Told blocks (InHeader k bit) = (h : ℕ) × Pointed ring blocks (header_block h) k bit
-  Told blocks (InData k bit) = (d : ℕ) × Pointed ring blocks (data_block d) k bit
+  abbrev pub Told : List Block → Option BadSymbol → Type 0
+  Told blocks None = AllLegal ring blocks
+  Told blocks (Some (InHeader k bit)) = (h : ℕ) × Pointed ring blocks (header_block h) k bit
+  Told blocks (Some (InData k bit)) = (d : ℕ) × Pointed ring blocks (data_block d) k bit
 
   -- ---- blocks one after the other
   both_legal : (xs ys : List Block) → AllLegal ring xs → AllLegal ring ys → AllLegal ring (xs ++ ys)
@@ -46,15 +48,15 @@ module _ (ring : List ℕ) where
     bad = p.bad;
   }
 
-  pub told-append : (xs ys : List Block) (s t : BadSymbol) → Told xs s → Told ys t → Told (xs ++ ys) (or_else s t)
-  told-append xs ys NoneMet NoneMet l m = both_legal xs ys l m
-  told-append xs ys NoneMet (InHeader k bit) l (h, p) = (h, sooner_too xs ys (header_block h) k bit l p)
-  told-append xs ys NoneMet (InData k bit) l (d, p) = (d, sooner_too xs ys (data_block d) k bit l p)
-  told-append xs ys (InHeader k bit) t (h, p) m = (h, later_too xs ys (header_block h) k bit p)
-  told-append xs ys (InData k bit) t (d, p) m = (d, later_too xs ys (data_block d) k bit p)
+  pub told-append : (xs ys : List Block) (s t : Option BadSymbol) → Told xs s → Told ys t → Told (xs ++ ys) (option_or s t)
+  told-append xs ys None None l m = both_legal xs ys l m
+  told-append xs ys None (Some (InHeader k bit)) l (h, p) = (h, sooner_too xs ys (header_block h) k bit l p)
+  told-append xs ys None (Some (InData k bit)) l (d, p) = (d, sooner_too xs ys (data_block d) k bit l p)
+  told-append xs ys (Some (InHeader k bit)) t (h, p) m = (h, later_too xs ys (header_block h) k bit p)
+  told-append xs ys (Some (InData k bit)) t (d, p) m = (d, later_too xs ys (data_block d) k bit p)
 
-  pub told_cons : (b : Block) (ys : List Block) (t : BadSymbol) → Legal ring b b.symbols → Told ys t → Told (b ∷ ys) t
-  told_cons b ys t l m = told-append (b ∷ []) ys NoneMet t (l, tt) m
+  pub told_cons : (b : Block) (ys : List Block) (t : Option BadSymbol) → Legal ring b b.symbols → Told ys t → Told (b ∷ ys) t
+  told_cons b ys t l m = told-append (b ∷ []) ys None t (l, tt) m
 
   -- ---- visits
   abbrev pub Faithful : Visit → Type 0

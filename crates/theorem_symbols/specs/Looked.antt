@@ -1,5 +1,5 @@
 -- What the bad symbol of a scan tells of the ring: where one is answered, and where none is; and that a built track has none.
-use Rattle.std.specs.Prelude.{ℕ, ◌+◌, ◌*◌, ◌%◌, ◌<◌, ◌≡◌, true, false, List, [], ◌∷◌, ◌++◌, get_or}
+use Rattle.std.specs.Prelude.{ℕ, ◌+◌, ◌*◌, ◌%◌, ◌<◌, ◌≡◌, true, false, List, [], ◌∷◌, ◌++◌, get_or, Some, None}
 use Rattle.gcr.specs.Symbols.{is_legal}
 use Rattle.gcr.specs.Places.{symbol_at}
 use Rattle.ring.specs.Bit.{IsRing, bits, bit_at}
@@ -8,7 +8,7 @@ use Rattle.scan_visit.specs.Visit.{DataFound, BadData, AnotherHeader, GoodData, 
 use Rattle.scan_visit.specs.Visit.{HeaderFound, BadHeader, TrueHeader, Visit}
 use Rattle.scan.specs.Scan.{visits_of}
 use Rattle.scan.specs.BadSymbols.{bad_symbol}
-use Rattle.scan.specs.declared.BadSymbol.TheVariants.{NoneMet, InHeader, InData}
+use Rattle.scan.specs.declared.BadSymbol.TheVariants.{InHeader, InData}
 
 -- ---- what the scan looks at
 
@@ -82,11 +82,11 @@ pub record Pointed (ring : List ℕ) (blocks : List Block) (b : Block) (k bit : 
 
 -- a bad symbol that is answered is there, and is the first that was met
 pub record Answered (ring : List ℕ) (track start : ℕ) : Type 0 where
-  pub header : (k bit : ℕ) → bad_symbol ring track start ≡ InHeader k bit
+  pub header : (k bit : ℕ) → bad_symbol ring track start ≡ Some (InHeader k bit)
       → (h : ℕ) × Pointed ring (blocks_looked ring track start) (header_block h) k bit
-  pub block : (k bit : ℕ) → bad_symbol ring track start ≡ InData k bit
+  pub block : (k bit : ℕ) → bad_symbol ring track start ≡ Some (InData k bit)
       → (d : ℕ) × Pointed ring (blocks_looked ring track start) (data_block d) k bit
-  pub none : bad_symbol ring track start ≡ NoneMet → AllLegal ring (blocks_looked ring track start)
+  pub none : bad_symbol ring track start ≡ None → AllLegal ring (blocks_looked ring track start)
 
 -- for every ring
 abbrev pub EveryRing : Type 0
@@ -96,4 +96,4 @@ EveryRing = (ring : List ℕ) (track start : ℕ) → IsRing ring → Answered r
 abbrev pub BuiltNone : Type 0
 BuiltNone =
     (track id1 id2 start : ℕ) (payloads codes : List ℕ) → track < 256 → id1 < 256 → id2 < 256 → ((i : ℕ) → get_or payloads i 0 < 256)
-    → bad_symbol (built_track track payloads codes id1 id2) track start ≡ NoneMet
+    → bad_symbol (built_track track payloads codes id1 id2) track start ≡ None

@@ -17,7 +17,7 @@ use Rattle.track_build.specs.Slots.{built_track}
 use Rattle.track_build.proofs.TrackBits.{st}
 use Rattle.track_build.proofs.Picture.{slots_joined}
 use Rattle.track_build.proofs.Stored.{length-built}
-use Rattle.scan_sync.specs.declared.SyncEnd.TheVariants.{At}
+use Rattle.std.specs.Prelude.{Some}
 use Rattle.scan_visit.specs.Visit.{visit}
 use Rattle.scan.specs.declared.SectorRecord.{SectorRecord}
 use Rattle.scan.specs.Scan.{next_sync, records_of, records_from, records}
@@ -71,7 +71,7 @@ module _ (track id1 id2 : ℕ) (payloads codes : List ℕ) (ht : track < 256) (h
   abbrev Placed : SectorRecord → Type 0
   Placed r = r.place ≡ place_of r.sector
 
-  placed : (c h : ℕ) (r : SectorRecord) → 0 ≤ c → next_sync D N c ≡ At h → step_of (visit D track h) ≡ good r → Placed r
+  placed : (c h : ℕ) (r : SectorRecord) → 0 ≤ c → next_sync D N c ≡ Some h → step_of (visit D track h) ≡ good r → Placed r
   placed c h r l e g =
       let f = next-found D N c h e in
       let o =

@@ -1,11 +1,11 @@
 -- The bits of a block with its sync and its gap.
-use mathlib.Core.Path.{◌≡◌, refl, sym, ap, ap₂, ◌∙◌, subst}
-use mathlib.Core.Bool.{Bool, true, false}
-use mathlib.Core.List.{List, [], ◌∷◌, ◌++◌}
-use Prim.Native.Nat.{ℕ, zero, suc, ◌+◌, ◌-◌, ◌*◌, ◌/◌, ◌%◌, ◌^◌, ◌≤◌, ◌<◌}
+use mathlib.Core.Path.{◌≡◌, refl, ap, ◌∙◌}
+use mathlib.Core.Bool.{Bool}
+use mathlib.Core.List.{List, ◌++◌}
+use Prim.Native.Nat.{ℕ, ◌+◌, ◌-◌, ◌*◌, ◌/◌, ◌%◌, ◌^◌, ◌≤◌, ◌<◌}
 use native.Mathlib.Omega.{arith}
 use lib.Dec.{T, eqb, eqb→eq}
-use lib.ListN.{length, get_or, replicate, length-append, length-replicate, get_or-replicate}
+use lib.ListN.{length, replicate, length-append, length-replicate, get_or-replicate}
 use Rattle.base.specs.Bits.{bit_in}
 use Rattle.base.proofs.Tests.{all_below, all_below→}
 use Rattle.base.proofs.BitLaws.{bit_left, bit_right}

@@ -3,7 +3,7 @@ use mathlib.Core.Path.{◌≡◌, refl, sym, ap, ap₂, ◌∙◌, subst}
 use mathlib.Core.Logic.{◌≢◌, ◌⊎◌, inl, inr}
 use mathlib.Core.Bool.{Bool, true, false, not}
 use mathlib.Core.List.{List, [], ◌∷◌, ◌++◌}
-use Prim.Native.Nat.{ℕ, zero, suc, ◌+◌, ◌-◌, ◌*◌, ◌/◌, ◌%◌, ◌^◌, ◌≤◌, ◌<◌}
+use Prim.Native.Nat.{ℕ, zero, suc, ◌+◌, ◌-◌, ◌*◌, ◌/◌, ◌%◌, ◌≤◌, ◌<◌}
 use native.Mathlib.Omega.{arith}
 use native.Mathlib.Nat.{mod-lt}
 use native.Mathlib.Decide.{dec_lt}
@@ -12,7 +12,7 @@ use lib.ListN.{length, get_or, length-append, get_or-append}
 use lib.Seq.{get_or-append-add}
 use lib.Bits.{bit_xor, xor_lt, xor_self}
 use Rattle.base.specs.Choice.{pick}
-use Rattle.base.specs.Lists.{tab, xor_of}
+use Rattle.base.specs.Lists.{xor_of}
 use Rattle.base.proofs.Tests.{eqb_yes, eqb_no, pick_lt}
 use Rattle.base.proofs.Lists.{is_tab}
 use Rattle.base.proofs.Xor.{xor_r, xor_same, xor5, xor_r_suc, xor_r_lt, xor_assoc, xor5_inverted, xor_of-tab}

@@ -1,18 +1,17 @@
 -- The bits of a slot, by its code.
-use mathlib.Core.Path.{◌≡◌, refl, sym, ap, ap₂, ◌∙◌, subst}
-use mathlib.Core.Logic.{◌≢◌, ◌⊎◌, inl, inr}
+use mathlib.Core.Path.{◌≡◌, refl, ap, ◌∙◌}
+use mathlib.Core.Logic.{◌⊎◌, inl, inr}
 use mathlib.Core.Bool.{Bool, true, false, not}
-use mathlib.Core.List.{List, [], ◌∷◌, ◌++◌}
-use Prim.Native.Nat.{ℕ, zero, suc, ◌+◌, ◌-◌, ◌*◌, ◌/◌, ◌%◌, ◌^◌, ◌≤◌, ◌<◌}
+use mathlib.Core.List.{List, ◌++◌}
+use Prim.Native.Nat.{ℕ, ◌+◌, ◌-◌, ◌*◌, ◌/◌, ◌%◌, ◌≤◌, ◌<◌}
 use native.Mathlib.Omega.{arith}
-use lib.Dec.{T}
-use lib.ListN.{length, get_or, length-append, length-replicate}
+use lib.ListN.{length, length-append, length-replicate}
 use Rattle.base.specs.Choice.{pick}
 use Rattle.base.specs.Bits.{bit_in}
 use Rattle.base.proofs.BitLaws.{bit_left, bit_right}
 use Rattle.gcr.specs.Symbols.{nibble_of}
 use Rattle.gcr.specs.Places.{symbol_at}
-use Rattle.gcr.proofs.EncodeLaws.{at, nibble, half, Bytes, nibble_lt, nibble_symbol, sym5_path, symbol_left, symbol_right}
+use Rattle.gcr.proofs.EncodeLaws.{at, nibble, Bytes, nibble_lt, nibble_symbol, sym5_path, symbol_left, symbol_right}
 use Rattle.gcr.proofs.DecodeLaws.{nib_at}
 use Rattle.track_build.specs.Slots.{gap, block}
 use Rattle.track_build.proofs.Unrolled.{Slot}

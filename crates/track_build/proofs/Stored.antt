@@ -13,7 +13,6 @@ use lib.ListN.{length, replicate}
 use lib.Seq.{sets}
 use Rattle.base.specs.Choice.{pick}
 use Rattle.base.specs.Lists.{joined}
-use Rattle.base.specs.Refusals.{no_room, wrong_sum}
 use Rattle.base.proofs.Tests.{eqb_yes, eqb_no, ltb_yes, ltb_no}
 use Rattle.base.proofs.Lists.{length-joined}
 use Rattle.base.proofs.InRow.{sets_more, sets_front}
@@ -21,7 +20,8 @@ use Rattle.geometry.specs.Zones.{zone_of, gap_in, slot_size, slot_start, sectors
 use Rattle.geometry.proofs.ZoneLaws.{zone_lt, fills, start-zero, start-next}
 use Rattle.gcr.specs.Groups.{encode}
 use Rattle.gcr.proofs.EncodeLaws.{length-encode}
-use Rattle.track_build.specs.declared.Built.TheVariants.{Written, Refused}
+use Rattle.std.specs.Prelude.{Ok, Err}
+use Rattle.base.specs.declared.Refusal.TheVariants.{NoRoom, WrongSum}
 use Rattle.track_build.specs.Blocks.{header_bytes, data_bytes}
 use Rattle.track_build.specs.Slots.{sync, gap, block, slot, code_of, payload_of, slot_of, built_track}
 use Rattle.track_build.specs.Answers.{built, out_after}
@@ -106,20 +106,20 @@ module _ (track : ℕ) (payloads codes : List ℕ) (id1 id2 : ℕ) where
 -- ---- the answers
 module _ (track : ℕ) (payloads codes : List ℕ) (id1 id2 : ℕ) (out : List ℕ) where
   pub wrong_sum_lem : length payloads % 256 ≢ 0
-      → (Refused wrong_sum ≡ built track payloads out) × (out ≡ out_after track payloads codes id1 id2 out)
+      → (Err WrongSum ≡ built track payloads out) × (out ≡ out_after track payloads codes id1 id2 out)
   unfolding built out_after
   wrong_sum_lem n = let e = eqb_no (length payloads % 256) 0 n in (rw e, rw e)
 
   module _ (s : length payloads % 256 ≡ 0) (capacity : ℕ) (k : capacity ≡ capacity_of track) where
     pub no_room_lem : length out < capacity
-        → (Refused no_room ≡ built track payloads out) × (out ≡ out_after track payloads codes id1 id2 out)
+        → (Err NoRoom ≡ built track payloads out) × (out ≡ out_after track payloads codes id1 id2 out)
     unfolding built out_after
     no_room_lem h =
         let e = eqb_yes (length payloads % 256) 0 s in
         let f = ltb_yes (length out) (capacity_of track) (omega arith) in (rw (e, f), rw (e, f))
 
     pub written : capacity ≤ length out → (after : List ℕ) → after ≡ sets out 0 (built_track track payloads codes id1 id2)
-        → (Written capacity ≡ built track payloads out) × (after ≡ out_after track payloads codes id1 id2 out)
+        → (Ok capacity ≡ built track payloads out) × (after ≡ out_after track payloads codes id1 id2 out)
     unfolding built out_after
     written h after p =
         let e = eqb_yes (length payloads % 256) 0 s in

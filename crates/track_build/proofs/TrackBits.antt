@@ -2,16 +2,16 @@
 --     st, ln        where slot k of the unrolled track starts, and its bits
 --     bit_of_lem        the bit at an offset of a slot
 --     ring-track    the unrolled track
-use mathlib.Core.Path.{◌≡◌, refl, sym, ap, ap₂, ◌∙◌, subst}
-use mathlib.Core.Logic.{◌≢◌, ◌⊎◌, inl, inr}
-use mathlib.Core.Bool.{Bool, true, false, not}
-use mathlib.Core.List.{List, [], ◌∷◌, ◌++◌}
-use Prim.Native.Nat.{ℕ, zero, suc, ◌+◌, ◌-◌, ◌*◌, ◌/◌, ◌%◌, ◌^◌, ◌≤◌, ◌<◌}
+use mathlib.Core.Path.{◌≡◌, sym, ap, ap₂, ◌∙◌}
+use mathlib.Core.Logic.{◌⊎◌}
+use mathlib.Core.Bool.{not}
+use mathlib.Core.List.{List}
+use Prim.Native.Nat.{ℕ, suc, ◌+◌, ◌-◌, ◌*◌, ◌/◌, ◌%◌, ◌^◌, ◌≤◌, ◌<◌}
 use native.Mathlib.Omega.{arith}
 use native.Mathlib.Decide.{dec_lt}
 use native.Mathlib.Nat.{zero-div, zero-mod, mod-lt, div-add-mod', mul-add-mod_self_right, mod-eq_of_lt, suc-mul}
 use lib.Arith.{digits_div, digits_mod}
-use lib.Dec.{T, eqb}
+use lib.Dec.{eqb}
 use lib.ListN.{length, get_or}
 use Rattle.base.specs.Bits.{bit_in}
 use Rattle.base.specs.Lists.{joined}
@@ -21,7 +21,7 @@ use Rattle.geometry.specs.Zones.{sectors_in, capacity_in, gap_in, slot_size, slo
 use Rattle.geometry.proofs.ZoneLaws.{sectors_in_lem, gap_ge, fills, start-zero, start-next}
 use Rattle.ring.specs.Bit.{bits, bit_at}
 use Rattle.gcr.proofs.EncodeLaws.{at, nibble, Bytes}
-use Rattle.track_build.proofs.Unrolled.{Slot, Track}
+use Rattle.track_build.proofs.Unrolled.{Track}
 use Rattle.track_build.proofs.SlotBits.{slot_by, headed, length-slot, slot_ok}
 
 -- slot j of a track of zone z with these codes, headers and data blocks

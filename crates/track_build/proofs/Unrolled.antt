@@ -3,8 +3,8 @@
 --     after           slots do not overlap
 --     place-run       40 ones stand before a block
 --     ten_ones        ten ones in a row end in a sync run
-use mathlib.Core.Path.{◌≡◌, refl, sym, ap, ap₂, ◌∙◌, subst}
-use mathlib.Core.Logic.{◌≢◌, ◌⊎◌, inl, inr}
+use mathlib.Core.Path.{◌≡◌, refl, sym, ap, ◌∙◌, subst}
+use mathlib.Core.Logic.{◌⊎◌}
 use mathlib.Core.Bool.{Bool, true, false, not}
 use Prim.Native.Nat.{ℕ, zero, suc, ◌+◌, ◌-◌, ◌*◌, ◌/◌, ◌%◌, ◌≤◌, ◌<◌}
 use native.Mathlib.Omega.{arith}
@@ -12,7 +12,7 @@ use native.Mathlib.Decide.{dec_lt, dec_le, ℕ_discrete}
 use lib.Dec.{T}
 use Rattle.gcr.specs.Symbols.{nibble_of}
 use Rattle.gcr.specs.Places.{symbol_at}
-use Rattle.gcr.proofs.SymbolFacts.{sym5, Bits, nib_31, zero_sym}
+use Rattle.gcr.proofs.SymbolFacts.{Bits, nib_31, zero_sym}
 use Rattle.gcr.proofs.DecodeLaws.{nib_at}
 
 -- L places from s on: what a slot holds. `hh`: it has a header; `hd`: it has a data block; hn and dn are their nibbles

@@ -8,30 +8,13 @@ ghost use Rattle.track_build.specs.Blocks.{inverted, header_bytes, data_bytes, s
 ghost use Rattle.track_build.specs.Slots.{gap, block, slot, payload_of, slot_of, built_track};
 ghost use Rattle.track_build.specs.Answers.{built, out_after};
 
-// What building answers.
-#[derive(Drop)]
-pub enum Built {
-    Written(usize),
-    Refused(u8),
-}
+use base::Refusal;
 
 // Does a code spoil its sector?
 pub fn spoils(code: u8) -> bool
     ensures { result ≡ spoils code }
 {
-    if code == 0x02 {
-        return true;
-    }
-    if code == 0x03 {
-        return true;
-    }
-    if code == 0x04 {
-        return true;
-    }
-    if code == 0x05 {
-        return true;
-    }
-    code == 0x09
+    matches!(code, 0x02 | 0x03 | 0x04 | 0x05 | 0x09)
 }
 
 // The bytes of a sector; what is not supplied is zeros.
@@ -40,10 +23,8 @@ fn payload_of(payloads: &[u8], sector: usize) -> [u8; 256]
     ensures { result ≡ payload_of payloads.now sector }
 {
     let mut payload = [0u8; 256];
-    let mut i: usize = 0;
-    while i < 256 {
-        payload[i] = base::byte_or(payloads, 256 * sector + i, 0);
-        i += 1;
+    for (i, byte) in payload.iter_mut().enumerate() {
+        *byte = base::byte_or(payloads, 256 * sector + i, 0);
     }
     payload
 }
@@ -52,10 +33,7 @@ fn payload_of(payloads: &[u8], sector: usize) -> [u8; 256]
 fn inverted_if(asked: bool, x: u8) -> u8
     ensures { result ≡ inverted asked x }
 {
-    if asked {
-        return x ^ 0xFF;
-    }
-    x
+    if asked { x ^ 0xFF } else { x }
 }
 
 // The bytes of a header. Code 9 inverts its checksum, code 0B both ids before that.
@@ -72,10 +50,7 @@ fn header_bytes(code: u8, sector: u8, track: u8, id1: u8, id2: u8) -> [u8; 8]
 fn marker(code: u8) -> u8
     ensures { result ≡ pick (eqb code 4) 0x00 0x07 }
 {
-    if code == 0x04 {
-        return 0x00;
-    }
-    0x07
+    if code == 0x04 { 0x00 } else { 0x07 }
 }
 
 // The bytes of a data block: marker, payload, checksum (code 5 inverts it), two zeros.
@@ -183,12 +158,9 @@ fn put_sectors(out: &mut [u8], track: u8, payloads: &[u8], codes: &[u8], id1: u8
     ensures { out.new
         ≡ sets out.old 0 (built_track track payloads.now codes.now id1 id2) }
 {
-    let count = geometry::sectors_per_track(track);
     let mut at: usize = 0;
-    let mut sector: u8 = 0;
-    while sector < count {
+    for sector in 0..geometry::sectors_per_track(track) {
         at += put_sector(out, at, track, sector, payloads, codes, id1, id2);
-        sector += 1;
     }
 }
 
@@ -200,17 +172,17 @@ pub fn build_track_with_errors(
     id1: u8,
     id2: u8,
     out: &mut [u8],
-) -> Built
+) -> Result<usize, Refusal>
     ensures { (result ≡ built track payloads.now out.old)
         × (out.new ≡ out_after track payloads.now codes.now id1 id2 out.old) }
 {
     if payloads.len() % 256 != 0 {
-        return Built::Refused(base::WRONG_SUM);
+        return Err(Refusal::WrongSum);
     }
     let capacity = geometry::track_capacity(track);
     if out.len() < capacity {
-        return Built::Refused(base::NO_ROOM);
+        return Err(Refusal::NoRoom);
     }
     put_sectors(out, track, payloads, codes, id1, id2);
-    Built::Written(capacity)
+    Ok(capacity)
 }

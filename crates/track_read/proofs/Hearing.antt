@@ -3,39 +3,42 @@
 --     hears            a visit more
 --     hear_ends        the whole scan; hear-silent: no visit at all
 use Prim.Native.Nat.{ℕ, zero, suc, ◌+◌, ◌*◌, ◌%◌, ◌≤◌, ◌<◌}
-use mathlib.Core.Path.{◌≡◌, refl, sym, ap, ap₂, ◌∙◌}
+use mathlib.Core.Path.{◌≡◌, refl, sym, ap, ap₂, ◌∙◌, subst}
 use mathlib.Core.Logic.{◌≢◌, ◌⊎◌, inl, inr}
 use mathlib.Core.Bool.{Bool, true, false, ◌&&◌, not}
 use mathlib.Core.List.{List, [], ◌∷◌, ◌++◌, append_assoc, append-nil}
 use native.Mathlib.Omega.{arith}
 use native.Mathlib.Decide.{ℕ_discrete, dec_lt}
 use lib.Dec.{eqb, ltb}
-use lib.ListN.{length, get_or, set, drop, replicate, length-append, length-drop, length-replicate, get_or-append}
-use lib.Seq.{sets, set-append_left, drop_at}
+use Rattle.std.specs.Prelude.{Option}
+use lib.ListN.{length, get_or, set, drop, replicate, length-append, length-drop, length-replicate}
+use lib.Seq.{sets}
+use Rattle.std.specs.Int.{from_bool}
 use Rattle.base.specs.Choice.{pick}
 use Rattle.base.specs.Lists.{tab, joined, count_of}
-use Rattle.base.proofs.Tests.{eqb_yes, eqb_no, ltb_yes, ltb_no, eq_of, pick_lt}
+use Rattle.base.proofs.Tests.{eqb_yes, eqb_no, ltb_yes, ltb_no, eq_of}
 use Rattle.base.proofs.Lists.{length-tab, get_d_tab, tab-same}
 use Rattle.base.proofs.Stores.{sets_left, tab_put, joined_same, joined-long, joined_put, tab-filled, joined-filled, count_put, count_none}
 use Rattle.base.proofs.Stores.{count_le}
 use Rattle.base.proofs.InRow.{sets_front}
 use Rattle.geometry.specs.Zones.{sectors_of}
 use Rattle.ring.specs.Bit.{bits, bit_at}
-use Rattle.scan_visit.specs.Visit.{Visit, visit}
+use Rattle.scan_visit.specs.Visit.{Visit}
 use Rattle.scan_visit.specs.Answers.{visit_answer}
 use Rattle.scan.specs.Scan.{visits, visits_of, records_of}
 use Rattle.scan.proofs.Passing.{end_of}
 use Rattle.scan.specs.declared.BadSymbol.{BadSymbol}
 use Rattle.scan.specs.BadSymbols.{bad_symbol}
-use Rattle.track_read.specs.declared.Saying.{Saying}
 use Rattle.track_read.specs.declared.TrackRead.{TrackRead}
-use Rattle.track_read.specs.declared.TrackRead.TheVariants.{Found}
-use Rattle.track_read.specs.Reading.{Handed, Given, first_of, bytes_given, read_payloads, read_statuses}
+use Rattle.track_read.specs.Reading.{Handed, Given, first_of, bytes_given, read_statuses}
 use Rattle.track_read.specs.Statuses.{status_by, status_in}
-use Rattle.track_read.specs.Inside.{is_new, Heard, ReadInto, weigh}
+use Rattle.track_read.specs.Inside.{number_said, is_new, Heard, ReadInto, weigh}
 use Rattle.track_read.proofs.FirstLaws.{is_given}
 use Rattle.track_read.proofs.StatusMore.{heard_given}
-use Rattle.track_read.proofs.MoreHeard.{said, heard_by, payload_by, heard_own, heard_else, same_first, else_first, again_first, new_first}
+use Rattle.track_read.proofs.MoreHeard.{said, heard_by, payload_by, heard_own, heard_else, heard_same, same_first, else_first, again_first, new_first}
+
+abbrev pub a_read : ℕ → Option BadSymbol → TrackRead
+a_read n bad = record { found = n; bad = bad }
 
 silent : status_by [] ≡ 3
 unfolding status_by
@@ -66,13 +69,13 @@ Moved ring start bit done =
     ((start % bits ring < bit) × ((v : Visit) × ((vs : List Visit) × (done ≡ v ∷ vs)))) ⊎ ((done ≡ []) × (bit ≡ start % bits ring))
 
 -- ---- the visits `done` are heard, and the scan stands at `bit`
-pub record Hearing (ring : List ℕ) (track start : ℕ) (payloads₀ statuses₀ payloads statuses : List ℕ) (bit n : ℕ) : Type 0 where
+pub record Hearing (ring : List ℕ) (track start : ℕ) (payloads₀ payloads statuses : List ℕ) (bit n : ℕ) : Type 0 where
   pub done : List Visit
   pub rest : done ++ visits (bit_at ring) track (end_of ring start) bit ≡ visits_of ring track start
   pub sized : (j : ℕ) → length (payload_by done j) ≡ 256
   pub moved : Moved ring start bit done
   pub laid : payloads ≡ joined (sectors_of track) (payload_by done) ++ drop (256 * sectors_of track) payloads₀
-  pub told : statuses ≡ tab (sectors_of track) (heard_by done) ++ drop (sectors_of track) statuses₀
+  pub told : statuses ≡ tab (sectors_of track) (heard_by done)
   pub count : n ≡ count_of 1 (tab (sectors_of track) (heard_by done))
 
 -- a list with one more is not empty
@@ -80,8 +83,8 @@ snoc_some : (vs : List Visit) (v : Visit) → (w : Visit) × ((ws : List Visit) 
 snoc_some [] v = (v, ([], refl))
 snoc_some (w ∷ vs) v = (w, (vs ++ (v ∷ []), refl))
 
-module _ {ring : List ℕ} {track start : ℕ} {payloads₀ statuses₀ payloads statuses : List ℕ} {bit n : ℕ}
-    (i : Hearing ring track start payloads₀ statuses₀ payloads statuses bit n) where
+module _ {ring : List ℕ} {track start : ℕ} {payloads₀ payloads statuses : List ℕ} {bit n : ℕ}
+    (i : Hearing ring track start payloads₀ payloads statuses bit n) where
   abbrev N : ℕ
   N = sectors_of track
 
@@ -97,9 +100,8 @@ module _ {ring : List ℕ} {track start : ℕ} {payloads₀ statuses₀ payloads
       ap length i.laid ∙ length-append (joined N (payload_by i.done)) (drop (256 * N) payloads₀)
       ∙ omega (arith, long, length-drop (256 * N) payloads₀)
 
-  pub statuses_kept : sectors_of track ≤ length statuses₀ → length statuses ≡ length statuses₀
-  statuses_kept h =
-      ap length i.told ∙ length-append (tab N f) (drop N statuses₀) ∙ omega (arith, length-tab N f, length-drop N statuses₀)
+  pub statuses_kept : length statuses ≡ sectors_of track
+  statuses_kept = ap length i.told ∙ length-tab N f
 
   pub few_found : n ≤ sectors_of track
   few_found = omega (arith, i.count, count_le 1 (tab N f), length-tab N f)
@@ -115,7 +117,7 @@ module _ {ring : List ℕ} {track start : ℕ} {payloads₀ statuses₀ payloads
     s = (said i.done v).sector
 
     abbrev num : ℕ
-    num = (said i.done v).number
+    num = number_said (said i.done v)
 
     rest_on : all ++ visits (bit_at ring) track (end_of ring start) next ≡ visits_of ring track start
     rest_on = append_assoc i.done (v ∷ []) _ ∙ ap (λ (l : List Visit). i.done ++ l) (sym turn) ∙ i.rest
@@ -130,21 +132,18 @@ module _ {ring : List ℕ} {track start : ℕ} {payloads₀ statuses₀ payloads
 
     -- the status of its sector, where the track has it
     status_at : s < N → get_or statuses s 0 ≡ f s
-    status_at l =
-        ap (λ (y : List ℕ). get_or y s 0) i.told
-        ∙ get_or-append (tab N f) (drop N statuses₀) 0 s (omega (arith, length-tab N f)) ∙ get_d_tab N f s l
+    status_at l = ap (λ (y : List ℕ). get_or y s 0) i.told ∙ get_d_tab N f s l
 
-    told_in : s < N → set statuses s (weigh (get_or statuses s 0) num) ≡ tab N (heard_by all) ++ drop N statuses₀
+    told_in : s < N → set statuses s (weigh (get_or statuses s 0) num) ≡ tab N (heard_by all)
     told_in l =
         ap₂ (λ (y : List ℕ) (k : ℕ). set y s (weigh k num)) i.told (status_at l)
-        ∙ set-append_left (tab N f) (drop N statuses₀) s (weigh (f s) num) (omega (arith, length-tab N f))
-        ∙ ap (λ (y : List ℕ). y ++ drop N statuses₀)
-        (tab_put N s (weigh (f s) num) f (heard_by all) l (heard_own i.done v) (λ j d. heard_else i.done v j d))
+        ∙ tab_put N s (weigh (f s) num) f (heard_by all) l (heard_own i.done v) (λ j d. heard_else i.done v j d)
 
-    told_out : N ≤ s → statuses ≡ tab N (heard_by all) ++ drop N statuses₀
-    told_out l =
-        i.told ∙ ap (λ (y : List ℕ). y ++ drop N statuses₀)
-        (tab-same N f (heard_by all) (λ j k. sym (heard_else i.done v j (λ e. omega arith))))
+    told_out : N ≤ s → statuses ≡ tab N (heard_by all)
+    told_out l = i.told ∙ tab-same N f (heard_by all) (λ j k. sym (heard_else i.done v j (λ e. omega arith)))
+
+    told_same : num ≡ 2 → statuses ≡ tab N (heard_by all)
+    told_same e = i.told ∙ tab-same N f (heard_by all) (λ j k. sym (heard_same i.done v e j))
 
     -- no sector is given that was not
     module _ (same : (j : ℕ) → j < N → first_of j (records_of all) ≡ first_of j (records_of i.done)) where
@@ -187,12 +186,22 @@ module _ {ring : List ℕ} {track start : ℕ} {payloads₀ statuses₀ payloads
     Sized_all = (j : ℕ) → length (payload_by all j) ≡ 256
 
     make : (ps ss : List ℕ) (k : ℕ) → Sized_all → ps ≡ joined N (payload_by all) ++ drop (256 * N) payloads₀
-        → ss ≡ tab N (heard_by all) ++ drop N statuses₀ → n + k ≡ count_of 1 (tab N (heard_by all))
-        → Hearing ring track start payloads₀ statuses₀ ps ss next (n + k)
+        → ss ≡ tab N (heard_by all) → n + k ≡ count_of 1 (tab N (heard_by all))
+        → Hearing ring track start payloads₀ ps ss next (n + k)
     make ps ss k z p t c =
         record { done = all; rest = rest_on; sized = z; moved = inl moved_on; laid = p; told = t; count = c }
 
-    module _ (ps ss : List ℕ) (k : ℕ) (h : Heard N (said i.done v) payload payloads statuses ps ss k) where
+    -- nothing is said
+    pub hears_nothing : num ≡ 2 → Hearing ring track start payloads₀ payloads statuses next n
+    hears_nothing e =
+        let same = same_first i.done v (λ z. omega arith) in
+        let none : n + 0 ≡ n = omega arith in
+        subst (λ (m : ℕ). Hearing ring track start payloads₀ payloads statuses next m) none
+        (make payloads statuses 0 (λ j. ap (λ (y : Handed). length (bytes_given y)) (same j) ∙ i.sized j)
+        (laid_same (λ j l. same j)) (told_same e) (count_kept (λ j l. same j)))
+
+    module _ (ps ss : List ℕ) (r : Bool) (k : ℕ) (one : k ≡ pick r 1 0)
+        (h : Heard N (said i.done v) payload payloads statuses ps ss r) where
       abbrev old : ℕ
       old = get_or statuses s 0
 
@@ -200,16 +209,16 @@ module _ {ring : List ℕ} {track start : ℕ} {payloads₀ statuses₀ payloads
           → (k ≡ pick new 1 0) × (ps ≡ pick new (sets payloads (256 * s) payload) payloads)
           × (ss ≡ pick there (set statuses s (weigh old num)) statuses)
       kept new there p q = (
-        h.counted ∙ ap (λ (b : Bool). pick b 1 0) p,
+        one ∙ ap (λ (b : Bool). pick b 1 0) (h.given_now ∙ p),
         h.laid ∙ ap (λ (b : Bool). pick b (sets payloads (256 * s) payload) payloads) p,
         h.told ∙ ap (λ (b : Bool). pick b (set statuses s (weigh old num)) statuses) q,
       )
 
       not_new : (there : Bool) → is_new N (said i.done v) statuses ≡ false → ltb s N ≡ there
-          → pick there (set statuses s (weigh old num)) statuses ≡ tab N (heard_by all) ++ drop N statuses₀
+          → pick there (set statuses s (weigh old num)) statuses ≡ tab N (heard_by all)
           → ((j : ℕ) → first_of j (records_of all) ≡ first_of j (records_of i.done))
           ⊎ ((j : ℕ) → j < N → first_of j (records_of all) ≡ first_of j (records_of i.done)) × Sized_all
-          → Hearing ring track start payloads₀ statuses₀ ps ss next (n + k)
+          → Hearing ring track start payloads₀ ps ss next (n + k)
       not_new there p q t (inl same) =
           let w = kept false there p q in
           make ps ss k (λ j. ap (λ (y : Handed). length (bytes_given y)) (same j) ∙ i.sized j)
@@ -234,10 +243,10 @@ module _ {ring : List ℕ} {track start : ℕ} {payloads₀ statuses₀ payloads
           by (yes e) = ap (λ (y : ℕ). length (payload_by all y)) e ∙ own (is_given (first_of s (records_of i.done))) refl
           by (no d) = ap (λ (y : Handed). length (bytes_given y)) (else_first i.done v g j d) ∙ i.sized j
 
-      pub hears : Hearing ring track start payloads₀ statuses₀ ps ss next (n + k)
+      pub hears : Hearing ring track start payloads₀ ps ss next (n + k)
       hears = by (dec_lt s N) (ℕ_discrete num 1) (ℕ_discrete old 1)
         where
-          by : Dec (s < N) → Dec (num ≡ 1) → Dec (old ≡ 1) → Hearing ring track start payloads₀ statuses₀ ps ss next (n + k)
+          by : Dec (s < N) → Dec (num ≡ 1) → Dec (old ≡ 1) → Hearing ring track start payloads₀ ps ss next (n + k)
           by (yes l) (yes g) (no o) =
               let w = kept true true (tests (ltb_yes s N l) (eqb_yes num 1 g) (eqb_no old 1 o)) (ltb_yes s N l) in
               make ps ss k (sized_after g) (w.1 ∙ laid-new l g o) (w.2 ∙ told_in l) (ap (λ (y : ℕ). n + y) w.0 ∙ count_new l g o)
@@ -261,87 +270,57 @@ module _ {ring : List ℕ} {track start : ℕ} {payloads₀ statuses₀ payloads
   all_heard : visits x track (end_of ring start) bit ≡ [] → i.done ≡ visits_of ring track start
   all_heard e = sym (append-nil i.done) ∙ ap (λ (l : List Visit). i.done ++ l) (sym e) ∙ i.rest
 
-  pub hear_ends : (bad : BadSymbol) → bad ≡ bad_symbol ring track start
-      → visits x track (end_of ring start) bit ≡ [] → bit ≢ start % bits ring
-      → ReadInto ring track start payloads₀ statuses₀ payloads statuses (Found n bad)
-  hear_ends bad is e m = by i.moved
-    where
-      some : (v : Visit) (vs : List Visit) → visits_of ring track start ≡ v ∷ vs → (j : ℕ)
-          → heard_by (visits_of ring track start) j ≡ status_in j (visits_of ring track start)
-      some v vs q j =
-          ap (λ (l : List Visit). heard_by l j) q ∙ sym (ap (λ (l : List Visit). status_in j l) q)
+  module _ (bad : Option BadSymbol) (is : bad ≡ bad_symbol ring track start) (e : visits x track (end_of ring start) bit ≡ [])
+      (list : List ℕ) (room : sectors_of track ≤ length list) (told : List ℕ) where
+    abbrev Ends : Type 0
+    Ends = ReadInto ring track start payloads₀ list payloads told (a_read n bad)
 
-      by : Moved ring start bit i.done
-          → ReadInto ring track start payloads₀ statuses₀ payloads statuses (Found n bad)
-      by (inr (none, b)) = absurd (m b)
-      by (inl (l, (v, (vs, d)))) =
-          let q = all_heard e in
-          let t : tab N (heard_by i.done) ≡ read_statuses ring track start =
-          tab-same N (heard_by i.done) (λ j. status_in j (visits_of ring track start))
-          (λ j b. ap (λ (l : List Visit). heard_by l j) q ∙ some v vs (sym q ∙ d) j) in
-          record {
-            answer = ap₂ Found (i.count ∙ ap (count_of 1) t) is;
-            laid = i.laid ∙ ap (λ (l : List Visit). joined N (payload_by l) ++ drop (256 * N) payloads₀) q;
-            told = i.told ∙ ap (λ (y : List ℕ). y ++ drop N statuses₀) t;
-          }
+    pub hear_ends : told ≡ sets list 0 statuses → bit ≢ start % bits ring → Ends
+    hear_ends put m = by i.moved
+      where
+        some : (v : Visit) (vs : List Visit) → visits_of ring track start ≡ v ∷ vs → (j : ℕ)
+            → heard_by (visits_of ring track start) j ≡ status_in j (visits_of ring track start)
+        some v vs q j =
+            ap (λ (l : List Visit). heard_by l j) q ∙ sym (ap (λ (l : List Visit). status_in j l) q)
 
-  -- no visit was made: no sync end was met
-  pub hear_silent : (bad : BadSymbol) → bad ≡ bad_symbol ring track start
-      → visits x track (end_of ring start) bit ≡ [] → bit ≡ start % bits ring → (ss : List ℕ) → sectors_of track ≤ length statuses
-      → ss ≡ sets statuses 0 (replicate (sectors_of track) 3) → ReadInto ring track start payloads₀ statuses₀ payloads ss (Found n bad)
-  hear_silent bad is e m ss room put = by i.moved
-    where
-      by : Moved ring start bit i.done
-          → ReadInto ring track start payloads₀ statuses₀ payloads ss (Found n bad)
-      by (inl (l, some)) = absurd (omega arith)
-      by (inr (none, b)) =
-          let q : visits_of ring track start ≡ [] = sym (all_heard e) ∙ none in
-          let threes : replicate N 3 ≡ read_statuses ring track start =
-          tab-filled N 3 ∙ tab-same N (λ j. 3) (λ j. status_in j (visits_of ring track start))
-          (λ j b. sym (ap (λ (l : List Visit). status_in j l) q ∙ silent)) in
-          let twos : tab N f ≡ replicate N 2 =
-          tab-same N f (λ j. 2) (λ j b. ap (λ (l : List Visit). heard_by l j) none) ∙ sym (tab-filled N 2) in
-          record {
-            answer = ap₂ Found (i.count ∙ ap (count_of 1) twos ∙ count_none 1 2 N (λ z. omega arith)
-                ∙ sym (ap (count_of 1) (sym threes) ∙ count_none 1 3 N (λ z. omega arith))) is;
-            laid = i.laid ∙ ap (λ (l : List Visit). joined N (payload_by l) ++ drop (256 * N) payloads₀) (all_heard e);
-            told = put ∙ sets_front (replicate N 3) statuses N (length-replicate {A = ℕ} N 3) room
-                ∙ ap₂ (λ (a c : List ℕ). a ++ c) threes
-                (ap (drop N) i.told ∙ drop_at (tab N f) (drop N statuses₀) N (length-tab N f));
-          }
+        by : Moved ring start bit i.done → Ends
+        by (inr (none, b)) = absurd (m b)
+        by (inl (l, (v, (vs, d)))) =
+            let q = all_heard e in
+            let t : tab N (heard_by i.done) ≡ read_statuses ring track start =
+            tab-same N (heard_by i.done) (λ j. status_in j (visits_of ring track start))
+            (λ j b. ap (λ (l : List Visit). heard_by l j) q ∙ some v vs (sym q ∙ d) j) in
+            record {
+              answer = ap₂ a_read (i.count ∙ ap (count_of 1) t) is;
+              laid = i.laid ∙ ap (λ (l : List Visit). joined N (payload_by l) ++ drop (256 * N) payloads₀) q;
+              told = put ∙ sets_front statuses list N statuses_kept room ∙ ap (λ (y : List ℕ). y ++ drop N list) (i.told ∙ t);
+            }
 
--- ---- before the first visit: zeros and status 2 throughout, in front of what was lent
-pub record Blank (track : ℕ) (payloads statuses payloads₁ statuses₁ : List ℕ) : Type 0 where
-  pub zeros : payloads₁ ≡ replicate (256 * sectors_of track) 0 ++ drop (256 * sectors_of track) payloads
-  pub twos : statuses₁ ≡ replicate (sectors_of track) 2 ++ drop (sectors_of track) statuses
+    -- no visit was made: no sync end was met
+    pub hear_silent : told ≡ sets list 0 (replicate (sectors_of track) 3) → bit ≡ start % bits ring → Ends
+    hear_silent put m = by i.moved
+      where
+        by : Moved ring start bit i.done → Ends
+        by (inl (l, some)) = absurd (omega arith)
+        by (inr (none, b)) =
+            let q : visits_of ring track start ≡ [] = sym (all_heard e) ∙ none in
+            let threes : replicate N 3 ≡ read_statuses ring track start =
+            tab-filled N 3 ∙ tab-same N (λ j. 3) (λ j. status_in j (visits_of ring track start))
+            (λ j b. sym (ap (λ (l : List Visit). status_in j l) q ∙ silent)) in
+            let twos : tab N f ≡ replicate N 2 =
+            tab-same N f (λ j. 2) (λ j b. ap (λ (l : List Visit). heard_by l j) none) ∙ sym (tab-filled N 2) in
+            record {
+              answer = ap₂ a_read (i.count ∙ ap (count_of 1) twos ∙ count_none 1 2 N (λ z. omega arith)
+                  ∙ sym (ap (count_of 1) (sym threes) ∙ count_none 1 3 N (λ z. omega arith))) is;
+              laid = i.laid ∙ ap (λ (l : List Visit). joined N (payload_by l) ++ drop (256 * N) payloads₀) (all_heard e);
+              told = put ∙ sets_front (replicate N 3) list N (length-replicate {A = ℕ} N 3) room
+                  ∙ ap (λ (y : List ℕ). y ++ drop N list) threes;
+            }
 
-pub blank : (track k : ℕ) (payloads statuses payloads₁ statuses₁ : List ℕ) → k ≡ sectors_of track
-    → 256 * sectors_of track ≤ length payloads → sectors_of track ≤ length statuses
-    → payloads₁ ≡ sets payloads 0 (replicate (256 * k) 0) → statuses₁ ≡ sets statuses 0 (replicate k 2)
-    → Blank track payloads statuses payloads₁ statuses₁
-blank track k payloads statuses payloads₁ statuses₁ e h₁ h₂ p q =
-    record {
-      zeros = p ∙ ap (λ (y : ℕ). sets payloads 0 (replicate (256 * y) 0)) e
-          ∙ sets_front (replicate (256 * sectors_of track) 0) payloads (256 * sectors_of track)
-          (length-replicate {A = ℕ} (256 * sectors_of track) 0) h₁;
-      twos = q ∙ ap (λ (y : ℕ). sets statuses 0 (replicate y 2)) e
-          ∙ sets_front (replicate (sectors_of track) 2) statuses (sectors_of track) (length-replicate {A = ℕ} (sectors_of track) 2) h₂;
-    }
-
-module _ {track : ℕ} {payloads statuses payloads₁ statuses₁ : List ℕ} (b : Blank track payloads statuses payloads₁ statuses₁) where
-  rest_kept : drop (256 * sectors_of track) payloads₁ ≡ drop (256 * sectors_of track) payloads
-  rest_kept =
-      ap (drop (256 * sectors_of track)) b.zeros
-      ∙ drop_at (replicate (256 * sectors_of track) 0) (drop (256 * sectors_of track) payloads) (256 * sectors_of track)
-      (length-replicate {A = ℕ} (256 * sectors_of track) 0)
-
-  more_kept : drop (sectors_of track) statuses₁ ≡ drop (sectors_of track) statuses
-  more_kept =
-      ap (drop (sectors_of track)) b.twos
-      ∙ drop_at (replicate (sectors_of track) 2) (drop (sectors_of track) statuses) (sectors_of track)
-      (length-replicate {A = ℕ} (sectors_of track) 2)
-
-  pub hear_begins : (ring : List ℕ) (start : ℕ) → Hearing ring track start payloads₁ statuses₁ payloads₁ statuses₁ (start % bits ring) 0
+-- ---- before the first visit: zeros, and status 2 throughout
+module _ (track : ℕ) (payloads payloads₁ statuses : List ℕ) (room : 256 * sectors_of track ≤ length payloads)
+    (zeros : payloads₁ ≡ sets payloads 0 (replicate (256 * sectors_of track) 0)) (twos : statuses ≡ replicate (sectors_of track) 2) where
+  pub hear_begins : (ring : List ℕ) (start : ℕ) → Hearing ring track start payloads payloads₁ statuses (start % bits ring) 0
   unfolding first_of records_of
   hear_begins ring start =
       record {
@@ -349,23 +328,18 @@ module _ {track : ℕ} {payloads statuses payloads₁ statuses₁ : List ℕ} (b
         rest = refl;
         sized = λ j. refl;
         moved = inr (refl, refl);
-        laid = b.zeros ∙ ap₂ (λ (l r : List ℕ). l ++ r) (joined-filled (sectors_of track) 256 0) (sym rest_kept);
-        told = b.twos ∙ ap₂ (λ (l r : List ℕ). l ++ r) (tab-filled (sectors_of track) 2) (sym more_kept);
+        laid = zeros ∙ sets_front (replicate (256 * sectors_of track) 0) payloads (256 * sectors_of track)
+            (length-replicate {A = ℕ} (256 * sectors_of track) 0) room
+            ∙ ap (λ (l : List ℕ). l ++ drop (256 * sectors_of track) payloads) (joined-filled (sectors_of track) 256 0);
+        told = twos ∙ tab-filled (sectors_of track) 2;
         count = sym (ap (count_of 1) (sym (tab-filled (sectors_of track) 2)) ∙ count_none 1 2 (sectors_of track) (λ e. omega arith));
       }
 
-  -- what is read after blanking, said of what was lent
-  pub as_lent : (ring : List ℕ) (start : ℕ) (r : TrackRead) (ps ss : List ℕ) → ReadInto ring track start payloads₁ statuses₁ ps ss r
-      → ReadInto ring track start payloads statuses ps ss r
-  as_lent ring start r ps ss o =
-      record {
-        answer = o.answer;
-        laid = o.laid ∙ ap (λ (l : List ℕ). read_payloads ring track start ++ l) rest_kept;
-        told = o.told ∙ ap (λ (l : List ℕ). read_statuses ring track start ++ l) more_kept;
-      }
+-- a sector that is handed out now counts once
+pub counts_once : (b : Bool) → from_bool b ≡ pick b 1 0
+counts_once true = refl
+counts_once false = refl
 
--- a saying counts once, or not
-pub counts : {c : ℕ} {said : Saying} {p payloads statuses payloads₁ statuses₁ : List ℕ} {k : ℕ}
-    → Heard c said p payloads statuses payloads₁ statuses₁ k → k < 2
-counts {c} {said} {p} {payloads} {statuses} t =
-    omega (arith, t.counted, pick_lt (is_new c said statuses) 1 0 2 (omega arith) (omega arith))
+pub counts : (b : Bool) → from_bool b < 2
+counts true = omega arith
+counts false = omega arith

@@ -6,3 +6,4 @@ pub mod MoreHeard
 pub mod Hearing
 pub mod Refusing
 pub mod StatusLaws
+pub mod Weights

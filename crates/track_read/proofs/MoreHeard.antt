@@ -1,6 +1,6 @@
 -- A visit more: what is then heard of each sector, and its first record.
 --     records_more             the records of the visits
---     heard_own, heard_else    the status of the sector that the visit speaks of, and of every other
+--     heard_own, heard_else    the status of the sector that the visit speaks of, and of every other; heard_same: of all, where it speaks of none
 --     same_first .. new_first  the first record: no record more, one of another sector, a second one, a first one
 use Prim.Native.Nat.{ℕ}
 use mathlib.Core.Path.{◌≡◌, refl, sym, ap, ◌∙◌}
@@ -20,7 +20,7 @@ use Rattle.scan.specs.Scan.{a_record, record_at, record_of, records_of}
 use Rattle.track_read.specs.declared.Saying.{Saying}
 use Rattle.track_read.specs.Reading.{Given, first_of, bytes_given}
 use Rattle.track_read.specs.Statuses.{said_of}
-use Rattle.track_read.specs.Inside.{weigh}
+use Rattle.track_read.specs.Inside.{number_said, weigh}
 use Rattle.track_read.proofs.FirstLaws.{is_given, first_other, first_second, first_new}
 use Rattle.track_read.proofs.StatusMore.{heard_of, heard_more, weigh-none}
 use Rattle.track_read.proofs.HearLaws.{saying_of, said-met}
@@ -45,7 +45,7 @@ payload_by done j = bytes_given (first_of j (records_of done))
 
 -- a visit gives a record where it says 1
 module _ (h : ℕ) where
-  no_record_lem : (f : HeaderFound) → (saying_of (visit_answer f)).number ≢ 1 → record_at h f ≡ []
+  no_record_lem : (f : HeaderFound) → number_said (saying_of (visit_answer f)) ≢ 1 → record_at h f ≡ []
   no_record_lem (BadHeader fault) n = refl
   no_record_lem (TrueHeader s i k (BadData fault)) n = refl
   no_record_lem (TrueHeader s i k (AnotherHeader d)) n = refl
@@ -54,7 +54,7 @@ module _ (h : ℕ) where
   abbrev Gives : HeaderFound → Type 0
   Gives f = (d : ℕ) × (record_at h f ≡ a_record (saying_of (visit_answer f)).sector d (visit_answer f).block.payload ∷ [])
 
-  a_record_lem : (f : HeaderFound) → (saying_of (visit_answer f)).number ≡ 1 → Gives f
+  a_record_lem : (f : HeaderFound) → number_said (saying_of (visit_answer f)) ≡ 1 → Gives f
   a_record_lem (BadHeader (IllegalHeader k)) n = absurd (omega arith)
   a_record_lem (BadHeader NoHeader) n = absurd (omega arith)
   a_record_lem (BadHeader (FalseHeader s)) n = absurd (omega arith)
@@ -70,27 +70,36 @@ module _ (done : List Visit) (v : Visit) where
   abbrev pub said : Saying
   said = saying_of (visit_answer v.found)
 
-  weighs : (j : ℕ) → heard_by (done ++ (v ∷ [])) j ≡ weigh (heard_by done j) (pick (eqb said.sector j) said.number 2)
+  weighs : (j : ℕ) → heard_by (done ++ (v ∷ [])) j ≡ weigh (heard_by done j) (pick (eqb said.sector j) (number_said said) 2)
   weighs j =
       ap heard_of (map_more j done v) ∙ heard_more (map (said_of j) done) (said_of j v) ∙ ap (weigh (heard_by done j)) (said-met j v.found)
 
-  pub heard_own : heard_by (done ++ (v ∷ [])) said.sector ≡ weigh (heard_by done said.sector) said.number
+  pub heard_own : heard_by (done ++ (v ∷ [])) said.sector ≡ weigh (heard_by done said.sector) (number_said said)
   heard_own =
       weighs said.sector
-      ∙ ap (λ (b : Bool). weigh (heard_by done said.sector) (pick b said.number 2)) (eqb_yes said.sector said.sector refl)
+      ∙ ap (λ (b : Bool). weigh (heard_by done said.sector) (pick b (number_said said) 2)) (eqb_yes said.sector said.sector refl)
 
   pub heard_else : (j : ℕ) → j ≢ said.sector → heard_by (done ++ (v ∷ [])) j ≡ heard_by done j
   heard_else j n =
-      weighs j ∙ ap (λ (b : Bool). weigh (heard_by done j) (pick b said.number 2)) (eqb_no said.sector j (λ e. n (sym e)))
+      weighs j ∙ ap (λ (b : Bool). weigh (heard_by done j) (pick b (number_said said) 2)) (eqb_no said.sector j (λ e. n (sym e)))
       ∙ weigh-none (map (said_of j) done)
 
+  -- nothing is said
+  pub heard_same : number_said said ≡ 2 → (j : ℕ) → heard_by (done ++ (v ∷ [])) j ≡ heard_by done j
+  heard_same n j =
+      weighs j ∙ ap (weigh (heard_by done j)) (nothing (eqb said.sector j) (number_said said) n) ∙ weigh-none (map (said_of j) done)
+    where
+      nothing : (b : Bool) (k : ℕ) → k ≡ 2 → pick b k 2 ≡ 2
+      nothing true k e = e
+      nothing false k e = refl
+
   -- no record, or one
-  pub same_first : said.number ≢ 1 → (j : ℕ) → first_of j (records_of (done ++ (v ∷ []))) ≡ first_of j (records_of done)
+  pub same_first : number_said said ≢ 1 → (j : ℕ) → first_of j (records_of (done ++ (v ∷ []))) ≡ first_of j (records_of done)
   same_first n j =
       ap (first_of j) (records_more done v ∙ ap (λ (l : List SectorRecord). records_of done ++ l) (no_record_lem v.place v.found n)
       ∙ append-nil (records_of done))
 
-  module _ (n : said.number ≡ 1) where
+  module _ (n : number_said said ≡ 1) where
     abbrev new : SectorRecord
     new = a_record said.sector (a_record_lem v.place v.found n).0 (visit_answer v.found).block.payload
 

@@ -12,11 +12,10 @@ use Rattle.base.proofs.InRow.{sets-whole}
 use Rattle.geometry.specs.Zones.{sectors_of}
 use Rattle.geometry.proofs.ZoneLaws.{sectors_of_lem}
 use Rattle.ring.specs.Bit.{ring_refusal}
-use Rattle.ring.proofs.RingRefusals.{is_ring}
 use Rattle.track_read.specs.Reading.{read_statuses}
 use Rattle.track_read.specs.Answers.{track_statuses, no_track, ring_statuses}
 use Rattle.track_read.proofs.ReadingLaws.{count_statuses}
-use Rattle.track_read.proofs.Refusing.{read-refused, none-refused}
+use Rattle.track_read.proofs.Refusing.{as-ring}
 
 -- a part filled with zeros
 pub no_track_lem : (part after : List ℕ) (track : ℕ) → length part ≡ sectors_of track → after ≡ sets part 0 (replicate (length part) 0)
@@ -34,11 +33,8 @@ module _ (ring payloads part : List ℕ) (track : ℕ) (p : 5376 ≤ length payl
 
   by_number : (k : ℕ) → ring_refusal (length ring) ≡ k → track_statuses ring track 0 payloads part ≡ ring_statuses ring track
   unfolding track_statuses ring_statuses
-  by_number zero f =
-      rw (none-refused ring track 0 payloads part for_payloads (omega arith) (is_ring ring f), f, all_read)
-      (append-nil (read_statuses ring track 0))
-  by_number (suc k) f =
-      sym (read-refused ring track 0 payloads part for_payloads (omega arith) (suc k) (sym f) (λ z. omega arith)).2 ∙ e ∙ rw f
+  by_number zero f = rw (as-ring ring track 0 payloads part for_payloads (omega arith), f, all_read) (append-nil (read_statuses ring track 0))
+  by_number (suc k) f = rw (as-ring ring track 0 payloads part for_payloads (omega arith), f) e
 
   pub ring-read : track_statuses ring track 0 payloads part ≡ ring_statuses ring track
   ring-read = by_number _ refl

@@ -7,7 +7,6 @@ use mathlib.Core.Logic.{◌⊎◌, inl, inr}
 use mathlib.Core.Bool.{Bool, true, false, ◌||◌}
 use mathlib.Core.List.{List, [], ◌∷◌, ◌++◌, map}
 use Prim.Native.Nat.{ℕ}
-use native.Mathlib.Omega.{arith}
 use lib.Dec.{eqb}
 use Rattle.base.specs.Choice.{pick}
 use Rattle.base.proofs.Tests.{eq_of}
@@ -15,7 +14,7 @@ use Rattle.scan_visit.specs.Visit.{BadData, AnotherHeader, GoodData, NoSync, Ill
 use Rattle.scan_visit.specs.Visit.{HeaderFound, BadHeader, TrueHeader, IllegalHeader, NoHeader, FalseHeader, Visit}
 use Rattle.scan.specs.declared.SectorRecord.{SectorRecord}
 use Rattle.scan.specs.Scan.{record_at, records_of}
-use Rattle.track_read.specs.Reading.{Handed, Given, NotGiven, first_of}
+use Rattle.track_read.specs.Reading.{Given, first_of}
 use Rattle.track_read.proofs.FirstLaws.{is_given}
 use Rattle.track_read.specs.Statuses.{is_status, said_by, said_of, was_said, first_true, status_by, status_in}
 use Rattle.track_read.specs.Inside.{weigh}

@@ -1,11 +1,12 @@
 -- What reading a track answers and leaves.
-use Rattle.std.specs.Prelude.{ℕ, ◌*◌, Bool, ◌&&◌, List, ◌++◌, leb, length, drop, replicate}
+use Rattle.std.specs.Prelude.{ℕ, ◌*◌, Bool, ◌&&◌, List, ◌++◌, leb, length, drop, replicate, Result}
 use Rattle.base.specs.Lists.{count_of}
 use Rattle.base.specs.Refusals.{unless}
+use Rattle.base.specs.Answers.{answer}
+use Rattle.base.specs.declared.Refusal.{Refusal}
 use Rattle.geometry.specs.Zones.{sectors_of}
 use Rattle.ring.specs.Bit.{ring_refusal}
 use Rattle.track_read.specs.declared.TrackRead.{TrackRead}
-use Rattle.track_read.specs.declared.TrackRead.TheVariants.{Found, Refused as NotRead}
 use Rattle.scan.specs.BadSymbols.{bad_symbol}
 use Rattle.scan.specs.Answers.{scan_refusal}
 use Rattle.track_read.specs.Reading.{read_payloads, read_statuses}
@@ -20,10 +21,14 @@ room_to_read track payloads statuses =
 abbrev pub read_refusal : List ℕ → ℕ → List ℕ → List ℕ → ℕ
 read_refusal ring track payloads statuses = scan_refusal (room_to_read track payloads statuses) (length ring)
 
-unfoldable pub track_read : List ℕ → ℕ → ℕ → List ℕ → List ℕ → TrackRead
+-- how many are given, and the bad symbol
+abbrev pub found_on : List ℕ → ℕ → ℕ → TrackRead
+found_on ring track start =
+    record { found = count_of 1 (read_statuses ring track start); bad = bad_symbol ring track start }
+
+unfoldable pub track_read : List ℕ → ℕ → ℕ → List ℕ → List ℕ → Result TrackRead Refusal
 track_read ring track start payloads statuses =
-    unless (read_refusal ring track payloads statuses) NotRead
-    (Found (count_of 1 (read_statuses ring track start)) (bad_symbol ring track start))
+    answer (read_refusal ring track payloads statuses) (found_on ring track start)
 
 unfoldable pub track_payloads : List ℕ → ℕ → ℕ → List ℕ → List ℕ → List ℕ
 track_payloads ring track start payloads statuses =

@@ -1,19 +1,22 @@
 // Reading a track: each sector by its first record.
-ghost use Rattle.std.specs.Prelude.{◌≡◌, ◌+◌, ◌*◌, ◌≤◌, ◌<◌, ◌||◌, eqb, length};
+#![tactic(auto)]
+
+ghost use Rattle.std.specs.Prelude.{◌≡◌, ◌*◌, ◌≤◌, map, length};
+ghost use Rattle.std.proofs.lemmas.List.Edits.{sets};
 ghost use Rattle.geometry.specs.Zones.{sectors_of};
 ghost use Rattle.ring.specs.Bit.{IsRing};
 ghost use Rattle.track_read.specs.Answers.{track_read, track_payloads, track_statuses, ring_statuses};
-ghost use Rattle.track_read.specs.Statuses.{no_data, false_data};
-ghost use Rattle.track_read.specs.Inside.{number_of, saying, said_met, weigh, Heard, ReadInto};
+ghost use Rattle.track_read.specs.Inside.{byte_of, weight_of, status_by, said_met, weigh, Heard, ReadInto};
 
+use base::Refusal;
 use scan::BadSymbol;
 use scan_visit::{DataAt, HeaderAt, Visited};
 
-// What reading a track answers: the number of sectors found and the first bad symbol that was met, or a refusal number.
-#[derive(Drop)]
-pub enum TrackRead {
-    Found(usize, BadSymbol),
-    Refused(u8),
+// What reading a track answers: how many sectors were found, and the first bad symbol that was met.
+#[derive(Clone, Copy, Debug, PartialEq, Eq)]
+pub struct TrackRead {
+    pub found: usize,
+    pub bad: Option<BadSymbol>,
 }
 
 // A sector's status: handed out, or why it is missing.
@@ -29,112 +32,121 @@ pub const FALSE_DATA: u8 = 5;
 
 pub const FALSE_HEADER: u8 = 9;
 
+// The most sectors of a track.
+const MOST_SECTORS: usize = 21;
+
+// A sector's status by what visits say of it. Where no visit is made, it is `NO_SYNC` for all sectors.
+#[derive(Clone, Copy, Debug, PartialEq, Eq)]
+enum Status {
+    HandedOut,
+    NoHeader,
+    NoData,
+    FalseData,
+    FalseHeader,
+}
+
+impl Status {
+    // As a status list has it.
+    fn byte(self) -> u8
+        ensures { result ≡ byte_of self }
+    {
+        match self {
+            Status::HandedOut => HANDED_OUT,
+            Status::NoHeader => NO_HEADER,
+            Status::NoData => NO_DATA,
+            Status::FalseData => FALSE_DATA,
+            Status::FalseHeader => FALSE_HEADER,
+        }
+    }
+
+    // What it weighs against what else is said of the sector.
+    fn weight(self) -> u8
+        ensures { result ≡ weight_of self }
+    {
+        match self {
+            Status::HandedOut => 3,
+            Status::NoData | Status::FalseData => 2,
+            Status::FalseHeader => 1,
+            Status::NoHeader => 0,
+        }
+    }
+
+    // The status after one saying more: the weightier, and of two that weigh the same the first.
+    fn weighed(self, new: Status) -> Status
+        ensures { byte_of result ≡ weigh (byte_of self) (byte_of new) }
+    {
+        if self.weight() < new.weight() {
+            new
+        } else {
+            self
+        }
+    }
+}
+
 // What a visit says of a sector: of which, and what.
-#[derive(Drop)]
+#[derive(Clone, Copy, Debug, PartialEq, Eq)]
 struct Saying {
-    pub sector: usize,
-    pub number: u8,
+    sector: usize,
+    status: Status,
 }
 
 // What the data search of a true header says of its sector.
-fn number_of(verdict: DataAt) -> u8
-    ensures { result ≡ number_of verdict }
+fn status_by(verdict: DataAt) -> Status
+    ensures { result ≡ status_by verdict }
 {
     match verdict {
-        DataAt::Nowhere => NO_DATA,
-        DataAt::IllegalIn(_, _) => NO_DATA,
-        DataAt::OtherMark(_) => NO_DATA,
-        DataAt::WrongSum(_) => FALSE_DATA,
-        DataAt::Another(_) => NO_DATA,
-        DataAt::Good(_) => HANDED_OUT,
+        DataAt::WrongSum(_) => Status::FalseData,
+        DataAt::Good(_) => Status::HandedOut,
+        _ => Status::NoData,
     }
 }
 
-fn a_saying(sector: u8, number: u8) -> Saying
-    ensures { result ≡ saying sector number }
-{
-    Saying {
-        sector: sector as usize,
-        number: number,
-    }
-}
-
-// What a visit says; where it says nothing, that no header of sector 0 was met.
-fn said_by(met: Visited) -> Saying
+// What a visit says of a sector, if it says something.
+fn said_by(met: Visited) -> Option<Saying>
     ensures { result ≡ said_met met.header met.«data» }
 {
-    let header = met.header;
-    let verdict = met.data;
-    match header {
-        HeaderAt::Illegal(_) => a_saying(0, NO_HEADER),
-        HeaderAt::No => a_saying(0, NO_HEADER),
-        HeaderAt::FalseSum(sector) => a_saying(sector, FALSE_HEADER),
-        HeaderAt::Sector(sector, _, _) => a_saying(sector, number_of(verdict)),
-    }
+    let (sector, status) = match met.header {
+        HeaderAt::FalseSum(sector) => (sector, Status::FalseHeader),
+        HeaderAt::Sector(sector, _, _) => (sector, status_by(met.data)),
+        _ => return None,
+    };
+    Some(Saying {
+        sector: usize::from(sector),
+        status,
+    })
 }
 
-// Is it the number of a true header without data?
-fn without_data(number: u8) -> bool
-    ensures { result ≡ eqb number no_data || eqb number false_data }
-{
-    if number == NO_DATA {
-        return true;
-    }
-    number == FALSE_DATA
-}
-
-// The status after one saying more.
-fn weigh_in(old: u8, new: u8) -> u8
-    ensures { result ≡ weigh old new }
-{
-    if old == HANDED_OUT {
-        return HANDED_OUT;
-    }
-    if new == HANDED_OUT {
-        return HANDED_OUT;
-    }
-    if without_data(old) {
-        return old;
-    }
-    if without_data(new) {
-        return new;
-    }
-    if old == FALSE_HEADER {
-        return FALSE_HEADER;
-    }
-    if new == FALSE_HEADER {
-        return FALSE_HEADER;
-    }
-    NO_HEADER
-}
-
-// A saying heard, where the track has its sector: the status weighed, and the payload handed out unless the sector has been: 1, else 0.
-fn hear(
-    payloads: &mut [u8],
-    statuses: &mut [u8],
-    count: usize,
-    said: Saying,
-    payload: &[u8; 256],
-) -> usize
-    requires { (256 * count ≤ length payloads.old) × (count ≤ length statuses.old) × (count ≤ 21) }
-    ensures { Heard count said payload.now payloads.old statuses.old payloads.new
-        statuses.new result }
+// A saying heard, where the track has its sector: the status weighed, and the payload handed out unless the sector has been. Is it
+// handed out now?
+fn hear(payloads: &mut [u8], statuses: &mut [Status], said: Saying, payload: &[u8; 256]) -> bool
+    requires { 256 * length statuses.old ≤ length payloads.old }
+    ensures { Heard (length statuses.old) said payload.now payloads.old (map byte_of statuses.old) payloads.new
+        (map byte_of statuses.new) result }
 {
     let sector = said.sector;
-    if count <= sector {
-        return 0;
+    if statuses.len() <= sector {
+        return false;
     }
     let stood = statuses[sector];
-    let number = said.number;
-    statuses[sector] = weigh_in(stood, number);
-    if number != HANDED_OUT {
-        return 0;
+    statuses[sector] = stood.weighed(said.status);
+    if said.status != Status::HandedOut {
+        return false;
     }
-    if stood == HANDED_OUT {
-        return 0;
+    if stood == Status::HandedOut {
+        return false;
     }
     base::store(payloads, 256 * sector, payload);
-    1
+    true
+}
+
+// Statuses in front of a status list.
+fn put_statuses(list: &mut [u8], statuses: &[Status])
+    requires { length statuses.now ≤ length list.old }
+    ensures { list.new ≡ sets list.old 0 (map byte_of statuses.now) }
+{
+    for (i, status) in statuses.iter().enumerate() {
+        list[i] = status.byte();
+    }
 }
 
 // The first record of each sector handed out, and of the others why they are missing; the answer is how many sectors have one, and the
@@ -151,33 +163,31 @@ fn read_visits(
     ensures { ReadInto ring.now track start_bit payloads.old statuses.old
         payloads.new statuses.new result }
 {
-    let count = geometry::sectors_per_track(track) as usize;
+    let count = usize::from(geometry::sectors_per_track(track));
     base::fill(payloads, 0, 256 * count, 0);
-    base::fill(statuses, 0, count, NO_HEADER);
+    let mut room = [Status::NoHeader; MOST_SECTORS];
+    let standing = &mut room[0..count];
     let bits = 8 * ring.len();
     let start = start_bit % bits;
     let end = start + bits;
     let mut payload = [0u8; 256];
     let mut bit = start;
-    let mut n: usize = 0;
-    let mut bad = BadSymbol::NoneMet;
-    loop {
-        let next = scan::next_visit(ring, track, end, bit, &mut payload);
-        if !next.found {
-            break;
+    let mut found: usize = 0;
+    let mut bad = None;
+    while let Some(visit) = scan::next_visit(ring, track, end, bit, &mut payload) {
+        bad = bad.or(scan::bad_in(visit.met, visit.place, bits));
+        bit = scan::next_bit(visit.place, visit.met.data);
+        if let Some(said) = said_by(visit.met) {
+            found += usize::from(hear(payloads, standing, said, &payload));
         }
-        let met = next.met;
-        let said = said_by(met);
-        n += hear(payloads, statuses, count, said, &payload);
-        bad = scan::or_else(bad, scan::bad_in(met, next.place, bits));
-        let verdict = met.data;
-        bit = scan::next_bit(next.place, verdict);
     }
-    // No visit was made.
     if bit == start {
+        // No visit was made.
         base::fill(statuses, 0, count, NO_SYNC);
+    } else {
+        put_statuses(statuses, standing);
     }
-    TrackRead::Found(n, bad)
+    TrackRead { found, bad }
 }
 
 // The payloads of a track's sectors, each by its first record, and the status list beside them: 1 for a sector handed
@@ -188,23 +198,20 @@ pub fn decode_track_from(
     start_bit: usize,
     payloads: &mut [u8],
     statuses: &mut [u8],
-) -> TrackRead
+) -> Result<TrackRead, Refusal>
     ensures { (result ≡ track_read ring.now track start_bit payloads.old statuses.old)
         × (payloads.new ≡ track_payloads ring.now track start_bit payloads.old statuses.old)
         × (statuses.new ≡ track_statuses ring.now track start_bit payloads.old statuses.old) }
 {
-    let count = geometry::sectors_per_track(track) as usize;
+    let count = usize::from(geometry::sectors_per_track(track));
     if payloads.len() < 256 * count {
-        return TrackRead::Refused(base::NO_ROOM);
+        return Err(Refusal::NoRoom);
     }
     if statuses.len() < count {
-        return TrackRead::Refused(base::NO_ROOM);
+        return Err(Refusal::NoRoom);
     }
-    let number = ring::refusal_of(ring.len());
-    if number != 0 {
-        return TrackRead::Refused(number);
-    }
-    read_visits(ring, track, start_bit, payloads, statuses)
+    ring::check(ring.len())?;
+    Ok(read_visits(ring, track, start_bit, payloads, statuses))
 }
 
 // The statuses of a ring's sectors. A ring that cannot be read is refused, which leaves the zeros.
@@ -215,5 +222,5 @@ pub fn ring_statuses(ring: &[u8], track: u8, part: &mut [u8])
     let mut payloads = [0u8; 5376];
     let count = part.len();
     base::fill(part, 0, count, 0);
-    decode_track_from(ring, track, 0, &mut payloads, part);
+    let _ = decode_track_from(ring, track, 0, &mut payloads, part);
 }

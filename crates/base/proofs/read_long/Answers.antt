@@ -1,6 +1,5 @@
 use Rattle.base.specs.Bytes.{four_bytes}
 use native.Mathlib.Omega.{arith}
-use borrow.Author.Rules.{rules}
 use Rattle.base.proofs.read_long.Goals as goal
 
 pub returns : goal.returns

@@ -1,6 +1,5 @@
 use Rattle.base.specs.Bytes.{two_bytes}
 use native.Mathlib.Omega.{arith}
-use borrow.Author.Rules.{rules}
 use Rattle.base.proofs.read_word.Goals as goal
 
 pub returns : goal.returns

@@ -1,7 +1,6 @@
 use mathlib.Core.Path.{ap, ◌∙◌}
 use Rattle.sector.specs.declared.SectorRead.{SectorRead}
 use Rattle.c_sectors.specs.Numbers.{sector_number, bytes_after}
-use borrow.Author.Rules.{rules}
 use Rattle.c_sectors.proofs.fielbmaru_read_unique.Goals as goal
 
 pub returns : goal.returns

@@ -1,9 +1,15 @@
-use mathlib.Core.Path.{sym, ap, ◌∙◌}
-use Rattle.gcr.specs.Inside.{first_lane}
+use mathlib.Core.Path.{sym, ap, ◌∙◌, subst}
+use Prim.Native.Nat.{ℕ, ◌^◌, ◌<◌}
+use native.Mathlib.Omega.{arith}
+use Rattle.gcr.specs.Inside.{first_lane, illegal_bit}
 use Rattle.gcr.proofs.FirstLane.{first_lane_is}
-use Rattle.gcr.proofs.Lanes.{decode_refused, decode_accepted}
-use borrow.Author.Rules.{rules}
+use Rattle.gcr.proofs.Lanes.{lanes_lt, illegal_small, decode_refused, decode_accepted}
 use Rattle.gcr.proofs.decode_bits.Goals as goal
+
+pub first_lane-requires : goal.first_lane-requires
+first_lane-requires c =
+    let small = subst (λ (y : ℕ). y < 2 ^ 40) (sym c.illegal_lanes-illegal.ensures) (lanes_lt illegal_bit illegal_small 8 c.args.bits) in
+    (omega arith, omega arith)
 
 pub returns-then-illegal-ne0 : goal.returns-then-illegal-ne0
 returns-then-illegal-ne0 c =

@@ -4,7 +4,6 @@ use Rattle.base.specs.Digits.{digits}
 use Rattle.gcr.specs.Symbols.{from_symbols}
 use Rattle.gcr.specs.Groups.{decode_group}
 use Rattle.gcr.specs.Answers.{answer4}
-use borrow.Author.Rules.{rules}
 use Rattle.gcr.proofs.decode_group.Goals as goal
 
 pub returns : goal.returns

@@ -15,4 +15,5 @@ small k x = ltb x 32
 
 pub returns : goal.returns
 unfolding symbol small
-returns c = (refl, ltb→lt (get_or table c.args.n 0) 32 (at small table tt c.args.n (search rules)))
+returns c =
+    rw (c.from.ensures) (refl, ltb→lt (get_or table c.args.n 0) 32 (at small table tt c.args.n (search rules)))

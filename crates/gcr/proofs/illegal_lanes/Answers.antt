@@ -1,5 +1,4 @@
 use Rattle.gcr.proofs.Lanes.{illegals-are}
-use borrow.Author.Rules.{rules}
 use Rattle.gcr.proofs.illegal_lanes.Goals as goal
 
 pub returns : goal.returns

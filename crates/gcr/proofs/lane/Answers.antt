@@ -1,5 +1,4 @@
 use Rattle.gcr.proofs.Lanes.{lane_is}
-use borrow.Author.Rules.{rules}
 use Rattle.gcr.proofs.lane.Goals as goal
 
 pub returns : goal.returns

@@ -7,7 +7,6 @@ use lib.Seq.{sets}
 use Rattle.base.proofs.InRow.{window_is}
 use Rattle.gcr.specs.Groups.{encode_group}
 use Rattle.gcr_blocks.proofs.BlockLaws.{filled}
-use borrow.Author.Rules.{rules}
 use Rattle.gcr_blocks.proofs.put_last.Goals as goal
 
 pub returns : goal.returns
@@ -16,7 +15,7 @@ returns c =
     let k = 4 * c.args.whole in
     let p = b ++ replicate 3 0 in
     let h : k + 4 ≤ length p = omega (arith, length-append b (replicate 3 0)) in
-    c.put_group.ensures
+    c.store.ensures ∙ ap (λ (l : List ℕ). sets c.args.out.now (5 * c.args.whole) l) c.encode_group.ensures
     ∙ ap (λ (l : List ℕ). sets c.args.out.now (5 * c.args.whole) (encode_group l))
     (filled b k _ _ _ _ refl c.byte_or.ensures
     c.byte_or-2.ensures c.byte_or-3.ensures

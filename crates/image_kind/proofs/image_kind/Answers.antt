@@ -1,3 +1,4 @@
+use Rattle.std.specs.Prelude.{}
 use Rattle.image_kind.proofs.KindLaws.{kind_g64, kind_nib, kind-size}
 use mathlib.Core.Path.{sym, ◌∙◌}
 use Rattle.image_kind.proofs.image_kind.Goals as goal
@@ -23,4 +24,4 @@ returns c =
     kind-size c.args.image.now
     (sym c.is_g64.ensures ∙ c.if-is_g64.false)
     (sym c.is_nib.ensures ∙ c.if-is_nib.false) _
-    (sym c.tracks_of.ensures.0 ∙ c.in-Tracks.is)
+    (sym c.tracks_of.ensures.0 ∙ c.in-Some.is)

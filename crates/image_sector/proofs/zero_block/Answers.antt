@@ -1,6 +1,5 @@
 use Rattle.image_sector.proofs.MediumSteps.{block-zeroed}
 use native.Mathlib.Omega.{arith}
-use borrow.Author.Rules.{rules}
 use Rattle.image_sector.proofs.zero_block.Goals as goal
 
 pub returns : goal.returns

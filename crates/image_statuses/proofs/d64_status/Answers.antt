@@ -1,5 +1,4 @@
 use Rattle.image_statuses.proofs.StatusLaws.{status_bad, status_good}
-use borrow.Author.Rules.{rules}
 use Rattle.image_statuses.proofs.d64_status.Goals as goal
 
 pub returns-then-spoils : goal.returns-then-spoils

@@ -1,7 +1,6 @@
 use native.Mathlib.Omega.{arith}
 use Rattle.geometry.proofs.ZoneLaws.{sectors_of_lem}
 use Rattle.image_statuses.proofs.StatusLaws.{d64_has, d64_none}
-use borrow.Author.Rules.{rules}
 use Rattle.image_statuses.proofs.d64_statuses.Goals as goal
 
 pub put_d64_statuses-requires : goal.put_d64_statuses-requires
@@ -19,6 +18,6 @@ returns-then-track-highest c =
 pub returns : goal.returns
 returns c =
     let a = c.args in
-    d64_none a.image.now a.highest a.track a.part.now c.fill.new.part
+    d64_none a.image.now a.highest a.track a.part.now c.fill.new.self
     c.requires.1
-    c.if-track-highest.false c.fill.ensures
+    c.if-track-highest.false (c.fill.ensures.after (λ y e. e))

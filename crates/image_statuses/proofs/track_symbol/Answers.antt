@@ -1,18 +1,10 @@
 use mathlib.Core.Path.{◌∙◌}
 use native.Mathlib.Omega.{arith}
-use borrow.Author.Rules.{rules}
-use Rattle.image_statuses.proofs.SymbolLaws.{symbol-zero, symbol_past, symbol_in_lem}
+use Rattle.image_statuses.proofs.SymbolLaws.{symbol_out, symbol_in_lem}
 use Rattle.image_statuses.proofs.track_symbol.Goals as goal
 
 pub returns-then-track-eq0 : goal.returns-then-track-eq0
-returns-then-track-eq0 c =
-    let a = c.args in
-    symbol-zero a.image.now a.track c.if-track-eq0.true
-
-pub returns-then-track-gt-HIGHEST_TRACK : goal.returns-then-track-gt-HIGHEST_TRACK
-returns-then-track-gt-HIGHEST_TRACK c =
-    let a = c.args in
-    symbol_past a.image.now a.track c.if-track-gt-HIGHEST_TRACK.true
+returns-then-track-eq0 c = symbol_out c.args.image.now c.args.track c.then-track-eq0.either
 
 pub returns : goal.returns
 returns c =

@@ -1,4 +1,4 @@
-use mathlib.Core.Path.{sym}
+use mathlib.Core.Path.{sym, ◌∙◌}
 use native.Mathlib.Omega.{arith}
 use lib.Seq.{length-take-le}
 use Rattle.lister.proofs.Envelopes.{short_input, other_letters, by_version}
@@ -16,8 +16,7 @@ returns-then-same_bytes c =
     by_version c.args.input.now (omega arith) s.result s.ensures
     c.if-same_bytes.true c.read_word.result c.read_word.ensures.0
 
-pub returns : goal.returns
-returns c =
+pub returns-else-same_bytes : goal.returns-else-same_bytes
+returns-else-same_bytes c =
     let s = c.same_bytes in
-    other_letters c.args.input.now (omega arith) s.result s.ensures
-    c.if-same_bytes.false
+    c.if-same_bytes.false ∙ other_letters c.args.input.now (omega arith) s.result s.ensures c.if-same_bytes.false

@@ -1,13 +1,9 @@
+use Rattle.std.proofs.Common.{arith}
 use Rattle.nib_catalogue.proofs.Cataloguing.{pairs_start, pairs_over, pairs_end, pairs_turn}
-use Rattle.nib_catalogue.specs.Catalogue.{pairs_from, pairs}
-use borrow.Author.Rules.{rules}
-use Prim.Native.Nat.{◌+◌, ◌-◌, ◌≤◌}
-use mathlib.Core.Path.{◌≡◌}
-use native.Mathlib.Omega.{arith}
 use Rattle.nib_catalogue.proofs.count_pairs.Goals as goal
 
 pub loop-k-init : goal.loop-k-init
-loop-k-init c = (omega arith, pairs_start c.args.image.now 0)
+loop-k-init c = pairs_start c.args.image.now 0
 
 pub returns-then-image-k-eq0 : goal.returns-then-image-k-eq0
 returns-then-image-k-eq0 c =
@@ -17,7 +13,7 @@ returns-then-image-k-eq0 c =
 pub loop-k-preserved : goal.loop-k-preserved
 loop-k-preserved c =
     let a = c.args in
-    (omega arith, omega (arith, pairs_turn a.image.now c.loop-k.k c.loop-k-test.true c.if-image-k-eq0.false))
+    omega (arith, pairs_turn a.image.now c.loop-k.k c.loop-k-test.true c.if-image-k-eq0.false)
 
 pub returns : goal.returns
 returns c =

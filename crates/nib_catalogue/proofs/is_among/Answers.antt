@@ -1,25 +1,15 @@
-use Rattle.nib_catalogue.proofs.Cataloguing.{among_none, among_here, among-on}
-use Rattle.nib_catalogue.specs.Catalogue.{among}
-use borrow.Author.Rules.{rules}
-use Prim.Native.Nat.{◌≤◌}
-use mathlib.Core.Path.{◌≡◌, refl, sym, ◌∙◌}
-use native.Mathlib.Omega.{arith}
+use Rattle.std.proofs.Common.{rules, tests, refl, ◌∙◌, eqb}
+use native.Mathlib.Nat.{sub-zero}
+use Rattle.std.proofs.lemmas.Iterator.{YieldsList-from_range}
+use Rattle.std.proofs.lemmas.Iterator.Search.{any_from_yields_List}
+use Rattle.nib_catalogue.proofs.Cataloguing.{any_below}
+use Rattle.nib_catalogue.specs.Catalogue.{among, code_at}
 use Rattle.nib_catalogue.proofs.is_among.Goals as goal
 
-pub loop-k-init : goal.loop-k-init
-loop-k-init c = (omega arith, refl)
-
-pub returns-then-image-k : goal.returns-then-image-k
-returns-then-image-k c =
-    let a = c.args in
-    sym (among_here a.image.now a.code c.loop-k.k (omega arith) c.if-image-k.true) ∙ c.loop-k.invariant.1
-
-pub loop-k-preserved : goal.loop-k-preserved
-loop-k-preserved c =
-    let a = c.args in
-    (omega arith, sym (among-on a.image.now a.code c.loop-k.k (omega arith) c.if-image-k.false) ∙ c.loop-k.invariant.1)
-
 pub returns : goal.returns
+unfolding among
 returns c =
     let a = c.args in
-    among_none a.image.now a.code c.loop-k.k (omega arith) ∙ c.loop-k.invariant.1
+    any_from_yields_List (λ k. eqb (code_at a.image.now k) a.code) _ _ _ c.any.ensures.ran
+    (YieldsList-from_range 0 a.n a.n refl (sub-zero a.n)) (λ x b q k. search (rules, tests))
+    ∙ any_below (among a.image.now a.code) (λ k. eqb (code_at a.image.now k) a.code) refl (λ n. refl) a.n

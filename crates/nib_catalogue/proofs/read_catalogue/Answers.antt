@@ -1,11 +1,9 @@
 use Rattle.nib_catalogue.proofs.Cataloguing.{nib_long, file_other, file_empty, file_faulty, file_cut, file_good}
 use Rattle.nib_catalogue.specs.Catalogue.{is_nib}
 use Prim.Native.Nat.{◌≤◌}
-use borrow.Author.Tests.{not-true, not-false}
 use mathlib.Core.Path.{◌≡◌, sym, ◌∙◌}
 use mathlib.Core.Bool.{true}
 use lib.ListN.{length}
-use borrow.Author.Rules.{rules}
 use Rattle.nib_catalogue.proofs.read_catalogue.Goals as goal
 
 pub returns-then-not-is_nib : goal.returns-then-not-is_nib

@@ -1,5 +1,4 @@
 use Rattle.nib_catalogue.proofs.Cataloguing.{window_is}
-use borrow.Author.Rules.{rules}
 use Rattle.nib_catalogue.proofs.window_at.Goals as goal
 
 pub returns : goal.returns

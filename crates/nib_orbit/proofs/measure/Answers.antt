@@ -1,6 +1,5 @@
 use Rattle.nib_orbit.proofs.Spans.{estimate_is}
 use native.Mathlib.Omega.{arith}
-use borrow.Author.Rules.{rules}
 use Rattle.nib_orbit.proofs.measure.Goals as goal
 
 pub returns : goal.returns

@@ -3,7 +3,6 @@ use native.Mathlib.Nat.{sub-zero}
 use borrow.Author.Tests.{ne_eqb, eq-eqb}
 use native.Mathlib.Omega.{arith}
 use lib.ListN.{length}
-use borrow.Author.Rules.{rules}
 use Rattle.nib_orbit.proofs.recover_orbit.Goals as goal
 
 pub returns-then-window-ne8192 : goal.returns-then-window-ne8192

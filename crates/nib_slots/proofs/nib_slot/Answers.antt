@@ -1,54 +1,38 @@
-use Rattle.nib_slots.proofs.Slotting.{Held, held, zone_there, window_there, slot-refused, slot_absent, slot_by_lem, whole_by}
-use Rattle.nib_slots.specs.Slots.{entry_of}
-use Rattle.nib_catalogue.specs.declared.Entry.TheVariants.{At}
-use mathlib.Core.Path.{◌≡◌, sym, ◌∙◌}
-use native.Mathlib.Omega.{arith}
-use borrow.Author.Rules.{rules}
+use Rattle.std.proofs.Common.{◌∙◌, sym, ap, arith}
+use Rattle.std.specs.Prelude.{Ok}
+use Rattle.std.proofs.lemmas.Result.{err_from_is_err_and}
+use Rattle.nib_slots.proofs.Slotting.{held, zone_there, window_there, slot-refused, slot_absent, slot_by_lem, whole_by}
 use Rattle.nib_slots.proofs.nib_slot.Goals as goal
+
+pub returns-in_err-entry : goal.returns-in_err-entry
+returns-in_err-entry c =
+    let p = err_from_is_err_and c.from_residual.result c.from_residual.ensures.1 in
+    rw (p.1, p.2) (slot-refused c.args.image.now c.args.slot _ (sym c.in_err-entry.ensures))
 
 pub zone_at-zone-requires : goal.zone_at-zone-requires
 zone_at-zone-requires c =
-    let place_is : entry_of c.args.image.now c.args.slot ≡ At c.in-At.k = sym c.entry_of-entry.ensures ∙ c.in-At.is in
-    let inside : Held c.args.image.now c.in-At.k = held _ _ _ place_is in
-    zone_there inside
+    zone_there (held c.args.image.now c.args.slot c.in-Some.k (sym c.in_ok-entry.ensures ∙ ap Ok c.in-Some.is))
 
 pub window_at-requires : goal.window_at-requires
 window_at-requires c =
-    let place_is : entry_of c.args.image.now c.args.slot ≡ At c.in-At.k = sym c.entry_of-entry.ensures ∙ c.in-At.is in
-    let inside : Held c.args.image.now c.in-At.k = held _ _ _ place_is in
-    window_there inside
+    window_there (held c.args.image.now c.args.slot c.in-Some.k (sym c.in_ok-entry.ensures ∙ ap Ok c.in-Some.is))
 
 pub estimate_orbit-chosen-requires : goal.estimate_orbit-chosen-requires
 estimate_orbit-chosen-requires c =
-    let place_is : entry_of c.args.image.now c.args.slot ≡ At c.in-At.k = sym c.entry_of-entry.ensures ∙ c.in-At.is in
-    let a = c.args in
-    whole_by a.image.now a.slot c.in-At.k place_is _ c.window_at.ensures
+    whole_by c.args.image.now c.args.slot c.in-Some.k (sym c.in_ok-entry.ensures ∙ ap Ok c.in-Some.is) _ c.window_at.ensures
 
 pub overflow_mul-result : goal.overflow_mul-result
 overflow_mul-result c =
-    let place_is : entry_of c.args.image.now c.args.slot ≡ At c.in-At.k = sym c.entry_of-entry.ensures ∙ c.in-At.is in
-    let inside : Held c.args.image.now c.in-At.k = held _ _ _ place_is in
-    omega (arith, inside)
+    omega (arith, held c.args.image.now c.args.slot c.in-Some.k (sym c.in_ok-entry.ensures ∙ ap Ok c.in-Some.is))
 
 pub overflow_add-result : goal.overflow_add-result
 overflow_add-result c =
-    let place_is : entry_of c.args.image.now c.args.slot ≡ At c.in-At.k = sym c.entry_of-entry.ensures ∙ c.in-At.is in
-    let inside : Held c.args.image.now c.in-At.k = held _ _ _ place_is in
-    omega (arith, inside)
+    omega (arith, held c.args.image.now c.args.slot c.in-Some.k (sym c.in_ok-entry.ensures ∙ ap Ok c.in-Some.is))
 
-pub returns-in-At : goal.returns-in-At
-returns-in-At c =
-    let place_is : entry_of c.args.image.now c.args.slot ≡ At c.in-At.k = sym c.entry_of-entry.ensures ∙ c.in-At.is in
-    let a = c.args in
-    slot_by_lem a.image.now a.slot c.in-At.k place_is _ _ _ c.window_at.ensures
-    c.zone_at-zone.ensures c.estimate_orbit-chosen.ensures.0
+pub returns-in-Some : goal.returns-in-Some
+returns-in-Some c =
+    slot_by_lem c.args.image.now c.args.slot c.in-Some.k (sym c.in_ok-entry.ensures ∙ ap Ok c.in-Some.is) _ _ _
+    c.window_at.ensures c.zone_at-zone.ensures c.estimate_orbit-chosen.ensures.0
 
-pub returns-in-Absent : goal.returns-in-Absent
-returns-in-Absent c =
-    let a = c.args in
-    slot_absent a.image.now a.slot (sym c.entry_of-entry.ensures ∙ c.in-Absent.is)
-
-pub returns-in-Refused : goal.returns-in-Refused
-returns-in-Refused c =
-    let a = c.args in
-    slot-refused a.image.now a.slot c.in-Refused.number (sym c.entry_of-entry.ensures ∙ c.in-Refused.is)
+pub returns-in-None : goal.returns-in-None
+returns-in-None c = slot_absent c.args.image.now c.args.slot (sym c.in_ok-entry.ensures ∙ ap Ok c.in-None.is)

@@ -1,22 +1,14 @@
-use Rattle.nib_write.proofs.Laying.{long-none, long_here, long-on}
-use mathlib.Core.Path.{refl, sym, ◌∙◌}
-use native.Mathlib.Omega.{arith}
+use Rattle.std.proofs.Common.{rules, tests, refl, ◌∙◌, ltb, get_or}
+use Rattle.std.proofs.lemmas.Iterator.{YieldsList-from_range}
+use Rattle.std.proofs.lemmas.Iterator.Search.{any_from_yields_List}
+use Rattle.nib_catalogue.proofs.Cataloguing.{any_below}
+use Rattle.nib_write.specs.Encoding.{any_long}
 use Rattle.nib_write.proofs.any_long.Goals as goal
 
-pub loop-slot-init : goal.loop-slot-init
-loop-slot-init c = (omega arith, refl)
-
-pub returns-then-length_at-gt-MAX_RING : goal.returns-then-length_at-gt-MAX_RING
-returns-then-length_at-gt-MAX_RING c =
-    let a = c.args in
-    sym (long_here a.lengths.now c.loop-slot.slot (omega arith) (omega (arith, c.length_at.ensures))) ∙ c.loop-slot.invariant.1
-
-pub loop-slot-preserved : goal.loop-slot-preserved
-loop-slot-preserved c =
-    let a = c.args in
-    (omega arith, sym (long-on a.lengths.now c.loop-slot.slot (omega arith) (omega (arith, c.length_at.ensures))) ∙ c.loop-slot.invariant.1)
-
 pub returns : goal.returns
+unfolding any_long
 returns c =
-    let a = c.args in
-    long-none a.lengths.now c.loop-slot.slot (omega arith) ∙ c.loop-slot.invariant.1
+    let lengths = c.args.lengths.now in
+    any_from_yields_List (λ k. ltb 65535 (get_or lengths k 0)) _ _ _ c.any.ensures.ran
+    (YieldsList-from_range 0 84 84 refl refl) (λ x b q k. search (rules, tests))
+    ∙ any_below (any_long lengths) (λ k. ltb 65535 (get_or lengths k 0)) refl (λ n. refl) 84

@@ -1,19 +1,16 @@
-use Rattle.nib_write.proofs.Laying.{rings-start, rings_skip, rings_one}
-use mathlib.Core.Path.{◌≡◌, sym, ◌∙◌}
-use native.Mathlib.Omega.{arith}
-use Rattle.nib_write.proofs.count_rings.Goals.{then-length_at-ne0, else-length_at-ne0}
+use Rattle.std.proofs.Common.{rules, tests, refl, ◌≡◌, ◌∙◌, arith}
+use Rattle.std.proofs.lemmas.Iterator.{YieldsList-from_range}
+use Rattle.std.proofs.lemmas.Iterator.Consumers.{YieldsList-from_filter, count_from_yields_List}
+use Rattle.nib_write.specs.Encoding.{rings_to}
+use Rattle.nib_write.proofs.Laying.{has_ring, rings_counted, rings_le}
 use Rattle.nib_write.proofs.count_rings.Goals as goal
-
-pub loop-slot-init : goal.loop-slot-init
-loop-slot-init c = (omega arith, omega arith, sym (rings-start c.args.lengths.now))
-
-pub loop-slot-preserved : goal.loop-slot-preserved
-loop-slot-preserved c =
-    let a = c.args in
-    let e = c.length_at.ensures in
-    elim c.if-length_at-ne0.branch [ then-length_at-ne0 w ↦ (omega arith, omega arith, omega (arith, rings_one a.lengths.now c.loop-slot.slot (λ z. w.if-length_at-ne0.true (e ∙ z)))) | else-length_at-ne0 w ↦ (omega arith, omega arith, omega (arith, rings_skip a.lengths.now c.loop-slot.slot (sym e ∙ w.if-length_at-ne0.false))) ]
 
 pub returns : goal.returns
 returns c =
-    let e : c.loop-slot.slot ≡ 84 = omega arith in
-    (rw e at c.loop-slot.invariant.2, omega arith)
+    let lengths = c.args.lengths.now in
+    let e : c.count.result ≡ rings_to lengths 84 =
+    count_from_yields_List c.filter.result c.count.result c.count.ensures.ran
+    (YieldsList-from_filter _ (has_ring lengths) (YieldsList-from_range 0 84 84 c.filter.ensures.source refl) c.filter.ensures.closure
+    (λ x b q k. search (rules, tests)))
+    ∙ rings_counted lengths 84 in
+    (e, omega (arith, e, rings_le lengths 84))

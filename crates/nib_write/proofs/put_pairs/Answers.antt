@@ -9,7 +9,6 @@ use Rattle.nib_write.proofs.put_pairs.Goals as goal
 pub loop-slot-init : goal.loop-slot-init
 loop-slot-init c =
     let a = c.args in (
-      omega arith,
       refl,
       omega (arith, rings-start a.lengths.now),
       sym (ap (sets a.out.now 16) (joined_empty (pair_of a.lengths.now a.zones.now))),
@@ -25,11 +24,11 @@ loop-slot-preserved c =
     let p = c.put_pair-at in
     let a = c.args in
     let t =
-    pairs_turn a.lengths.now a.zones.now a.out.now c.loop-slot.out c.loop-slot.at c.loop-slot.slot c.loop-slot.invariant.2
-    c.loop-slot.invariant.3 p.new.out p.result p.ensures.out_after p.ensures.value in
-    (omega arith, p.auto.out ∙ c.loop-slot.invariant.1, t.0, t.1)
+    pairs_turn a.lengths.now a.zones.now a.out.now c.loop-slot.out c.loop-slot.at c.loop-slot.slot c.loop-slot.invariant.1
+    c.loop-slot.invariant.2 p.new.out p.result p.ensures.out_after p.ensures.value in
+    (p.auto.out ∙ c.loop-slot.invariant.0, t.0, t.1)
 
 pub returns : goal.returns
 returns c =
     let e : c.loop-slot.slot ≡ 84 = omega arith in
-    record { out_after = rw e at c.loop-slot.invariant.3; value = rw e at c.loop-slot.invariant.2 }
+    record { out_after = rw e at c.loop-slot.invariant.2; value = rw e at c.loop-slot.invariant.1 }

@@ -1,37 +1,27 @@
-use Rattle.base.proofs.Pieces.{tab_turn}
-use Rattle.nib_write.specs.Encoding.{repeated}
-use Rattle.base.proofs.Lists.{tab_empty}
-use Rattle.base.specs.Lists.{tab}
+use Rattle.std.proofs.Common.{◌≡◌, ◌*◌, ◌+◌, ◌/◌, ◌%◌, ◌<◌, refl, sym, ap, ◌∙◌, length, arith}
 use native.Mathlib.Nat.{mod-lt}
-use lib.ListN.{length-set}
+use Rattle.std.proofs.lemmas.Nat.{div-add-mod'}
+use Rattle.base.proofs.Lists.{tab_empty}
 use lib.Seq.{sets}
-use Prim.Native.Nat.{ℕ, ◌%◌}
-use mathlib.Core.Path.{◌≡◌, refl, sym, ap, ◌∙◌}
-use native.Mathlib.Omega.{arith}
-use lib.ListN.{length, get_or}
+use Rattle.nib_write.proofs.Laying.{repeats, ring_laid, window_done}
 use Rattle.nib_write.proofs.put_window.Goals as goal
 
-pub loop-i-init : goal.loop-i-init
-loop-i-init c = (
-  omega arith,
-  refl,
-  sym (ap (sets c.args.out.now c.args.at) (tab_empty (λ k. get_or c.args.ring.now (k % length c.args.ring.now) 0))),
+pub loop-k-init : goal.loop-k-init
+loop-k-init c =
+    let none : 0 * length c.args.ring.now ≡ 0 = omega arith in
+    (refl, rw none (sym (ap (sets c.args.out.now c.args.at) (tab_empty (repeats c.args.ring.now)))))
+
+pub loop-k-preserved : goal.loop-k-preserved
+loop-k-preserved c = (
+  c.store.auto.out ∙ c.loop-k.invariant.0,
+  ring_laid c.args.ring.now c.args.out.now c.loop-k.out c.store.new.out c.args.at c.loop-k.k c.loop-k.invariant.1 c.store.ensures,
 )
 
-pub bounds-ring-i : goal.bounds-ring-i
-bounds-ring-i c = mod-lt _ (omega arith)
-
-pub loop-i-preserved : goal.loop-i-preserved
-loop-i-preserved c =
-    let a = c.args in (
-      omega arith,
-      simp length-set c.loop-i.invariant.1,
-      tab_turn a.out.now c.loop-i.out a.at c.loop-i.i (λ k. get_or a.ring.now (k % length a.ring.now) 0) c.loop-i.invariant.2,
-    )
-
 pub returns : goal.returns
-unfolding repeated
 returns c =
-    let a = c.args in
-    let e : c.loop-i.i ≡ 8192 = omega arith in
-    c.loop-i.invariant.2 ∙ ap (λ (n : ℕ). sets a.out.now a.at (tab n (λ k. get_or a.ring.now (k % length a.ring.now) 0))) e
+    let n = length c.args.ring.now in
+    let over : 8192 % n < n = mod-lt 8192 c.requires.0 in
+    let all : 8192 / n * n + 8192 % n ≡ 8192 = div-add-mod' 8192 n in
+    let last : c.loop-k.k ≡ 8192 / n = omega arith in
+    window_done c.args.ring.now c.args.out.now c.loop-k.out c.store-2.new.out c.args.at (8192 / n) (rw last at c.loop-k.invariant.1)
+    (8192 % n) (omega arith) all c.store-2.ensures

@@ -29,7 +29,6 @@ room m rings out k from n at h s f e z g a = record {
 pub loop-slot-init : goal.loop-slot-init
 loop-slot-init c =
     let a = c.args in (
-      omega arith,
       refl,
       sym (sum-start a.lengths.now),
       omega (arith, rings-start a.lengths.now),
@@ -39,25 +38,25 @@ loop-slot-init c =
 pub overflow_add-end : goal.overflow_add-end
 overflow_add-end c =
     let r = room c.args.lengths.now c.args.rings.now c.loop-slot.out c.loop-slot.slot c.loop-slot.from c.length_at-n.result c.loop-slot.at
-    (omega arith) c.requires.0 (omega arith) c.length_at-n.ensures c.if-n-ne0.true c.loop-slot.invariant.2 c.loop-slot.invariant.3 in
+    (omega arith) c.requires.0 (omega arith) c.length_at-n.ensures c.if-n-ne0.true c.loop-slot.invariant.1 c.loop-slot.invariant.2 in
     omega (arith, r)
 
 pub slice_bounds-put_window-end : goal.slice_bounds-put_window-end
 slice_bounds-put_window-end c =
     let r = room c.args.lengths.now c.args.rings.now c.loop-slot.out c.loop-slot.slot c.loop-slot.from c.length_at-n.result c.loop-slot.at
-    (omega arith) c.requires.0 (omega arith) c.length_at-n.ensures c.if-n-ne0.true c.loop-slot.invariant.2 c.loop-slot.invariant.3 in
+    (omega arith) c.requires.0 (omega arith) c.length_at-n.ensures c.if-n-ne0.true c.loop-slot.invariant.1 c.loop-slot.invariant.2 in
     omega (arith, r)
 
 pub put_window-requires : goal.put_window-requires
 put_window-requires c =
     let r = room c.args.lengths.now c.args.rings.now c.loop-slot.out c.loop-slot.slot c.loop-slot.from c.length_at-n.result c.loop-slot.at
-    (omega arith) c.requires.0 (omega arith) c.length_at-n.ensures c.if-n-ne0.true c.loop-slot.invariant.2 c.loop-slot.invariant.3 in
+    (omega arith) c.requires.0 (omega arith) c.length_at-n.ensures c.if-n-ne0.true c.loop-slot.invariant.1 c.loop-slot.invariant.2 in
     (simp (length-take, length-drop) (omega arith), omega arith)
 
 pub overflow_add-at : goal.overflow_add-at
 overflow_add-at c =
     let r = room c.args.lengths.now c.args.rings.now c.loop-slot.out c.loop-slot.slot c.loop-slot.from c.length_at-n.result c.loop-slot.at
-    (omega arith) c.requires.0 (omega arith) c.length_at-n.ensures c.if-n-ne0.true c.loop-slot.invariant.2 c.loop-slot.invariant.3 in
+    (omega arith) c.requires.0 (omega arith) c.length_at-n.ensures c.if-n-ne0.true c.loop-slot.invariant.1 c.loop-slot.invariant.2 in
     omega (arith, r)
 
 pub loop-slot-preserved : goal.loop-slot-preserved
@@ -67,26 +66,24 @@ loop-slot-preserved c =
     let e = c.length_at-n.ensures in
     elim c.if-n-ne0.branch [
       | then-n-ne0 w ↦ (
-        omega arith,
-        ap length w.out-is ∙ w.put_window.auto.out ∙ c.loop-slot.invariant.1,
+        ap length w.out-is ∙ w.put_window.auto.out ∙ c.loop-slot.invariant.0,
         omega (arith, w.from-is, sum-next m c.loop-slot.slot),
         omega (arith, w.at-is, rings_one m c.loop-slot.slot (λ z. w.if-n-ne0.true (e ∙ z))),
-        windows_one m a.rings.now a.out.now c.loop-slot.out c.loop-slot.at c.loop-slot.slot c.loop-slot.invariant.3 c.loop-slot.invariant.4
+        windows_one m a.rings.now a.out.now c.loop-slot.out c.loop-slot.at c.loop-slot.slot c.loop-slot.invariant.2 c.loop-slot.invariant.3
             c.if-n-ne0.out c.loop-slot.from c.length_at-n.result
-            e w.if-n-ne0.true c.loop-slot.invariant.2 (w.out-is ∙ w.put_window.ensures),
+            e w.if-n-ne0.true c.loop-slot.invariant.1 (w.out-is ∙ w.put_window.ensures),
       )
       | else-n-ne0 w ↦
           let z = sym e ∙ w.if-n-ne0.false in (
-            omega arith,
-            ap length w.out-is ∙ c.loop-slot.invariant.1,
+            ap length w.out-is ∙ c.loop-slot.invariant.0,
             omega (arith, w.from-is, sum-next m c.loop-slot.slot),
             omega (arith, w.at-is, rings_skip m c.loop-slot.slot z),
-            w.out-is ∙ windows_skip m a.rings.now a.out.now c.loop-slot.out c.loop-slot.at c.loop-slot.slot c.loop-slot.invariant.3
-                c.loop-slot.invariant.4 z,
+            w.out-is ∙ windows_skip m a.rings.now a.out.now c.loop-slot.out c.loop-slot.at c.loop-slot.slot c.loop-slot.invariant.2
+                c.loop-slot.invariant.3 z,
           )
     ]
 
 pub returns : goal.returns
 returns c =
     let e : c.loop-slot.slot ≡ 84 = omega arith in
-    rw e at c.loop-slot.invariant.4
+    rw e at c.loop-slot.invariant.3

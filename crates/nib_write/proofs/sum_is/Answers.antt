@@ -7,7 +7,7 @@ use native.Mathlib.Omega.{arith}
 use Rattle.nib_write.proofs.sum_is.Goals as goal
 
 pub loop-slot-init : goal.loop-slot-init
-loop-slot-init c = (omega arith, omega (arith, sum-start c.args.lengths.now))
+loop-slot-init c = omega (arith, sum-start c.args.lengths.now)
 
 pub returns-then-left-n : goal.returns-then-left-n
 returns-then-left-n c =
@@ -19,17 +19,17 @@ returns-then-left-n c =
       sum_le a.lengths.now 84 (c.loop-slot.slot + 1) (omega arith),
       c.length_at-n.ensures,
       c.if-left-n.true,
-      c.loop-slot.invariant.1,
+      c.loop-slot.invariant,
     ) in
     sym (ne_eqb (sum_to a.lengths.now 84) a.total f)
 
 pub loop-slot-preserved : goal.loop-slot-preserved
 loop-slot-preserved c =
     let a = c.args in
-    (omega arith, omega (arith, sum-next a.lengths.now c.loop-slot.slot, c.length_at-n.ensures))
+    omega (arith, sum-next a.lengths.now c.loop-slot.slot, c.length_at-n.ensures)
 
 pub returns : goal.returns
 returns c =
     let a = c.args in
     let e : c.loop-slot.slot ≡ 84 = omega arith in
-    eq_zero c.loop-slot.left (sum_to a.lengths.now 84) a.total (rw e at c.loop-slot.invariant.1)
+    eq_zero c.loop-slot.left (sum_to a.lengths.now 84) a.total (rw e at c.loop-slot.invariant)

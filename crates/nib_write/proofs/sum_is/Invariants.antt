@@ -1,10 +1,7 @@
 use Rattle.nib_write.specs.Encoding.{sum_to}
-use Prim.Native.Nat.{◌+◌, ◌-◌, ◌≤◌}
+use Prim.Native.Nat.{◌+◌}
 use mathlib.Core.Path.{◌≡◌}
 use Rattle.nib_write.proofs.sum_is.Given as goal
 
 abbrev pub invariant-loop-slot : goal.invariant-loop-slot
-invariant-loop-slot l = (l.slot ≤ 84) × (l.left + sum_to l.lengths l.slot ≡ l.total)
-
-abbrev pub decreases-loop-slot : goal.decreases-loop-slot
-decreases-loop-slot l = 84 - l.slot
+invariant-loop-slot l = (l.left + sum_to l.lengths l.slot ≡ l.total)

@@ -1,38 +1,16 @@
-use mathlib.Core.Path.{refl, ◌∙◌}
+use mathlib.Core.Path.{◌≡◌}
 use native.Mathlib.Omega.{arith}
-use Rattle.page.specs.Page.{sheet}
+use lib.ListN.{length}
 use Rattle.page.proofs.PageLaws.{none-together, one_more}
-use Rattle.page_lines.specs.Tally.{unread_at}
-use Rattle.page_lines.proofs.TallyLaws.{all_unread}
+use Rattle.page_lines.specs.Tally.{unread}
 use Rattle.page_lines.proofs.put_unread.Goals as goal
 
 pub loop-j-init : goal.loop-j-init
-loop-j-init c = let a = c.args in
-    (omega arith, refl, none-together (sheet a.page.now a.at) (unread_at a.asked a.statuses.now))
-
-pub put_unread_at-behind-requires : goal.put_unread_at-behind-requires
-put_unread_at-behind-requires c = omega arith
-
-pub overflow_add-j : goal.overflow_add-j
-overflow_add-j c = omega arith
-
-pub loop-j-smaller : goal.loop-j-smaller
-loop-j-smaller c = omega arith
+loop-j-init c = none-together _ _
 
 pub loop-j-preserved : goal.loop-j-preserved
-loop-j-preserved c =
-    let p = c.put_unread_at-behind in
-    let l = c.loop-j in
-    let a = c.args in (
-      omega arith,
-      p.auto.page ∙ l.invariant.1,
-      one_more (sheet a.page.now a.at) (sheet l.page l.behind) (sheet p.new.page p.result)
-          (unread_at a.asked a.statuses.now)
-          l.j l.invariant.2 p.ensures,
-    )
+loop-j-preserved c = one_more _ _ _ _ _ c.loop-j.invariant c.put_unread_at.ensures
 
 pub returns : goal.returns
-returns c =
-    let l = c.loop-j in
-    let a = c.args in
-    all_unread (sheet a.page.now a.at) (sheet l.page l.behind) a.asked a.statuses.now l.j (omega arith) l.invariant.2
+unfolding unread
+returns c = let n : length c.args.statuses.now ≡ c.loop-j.j = omega arith in rw n c.loop-j.invariant

@@ -1,13 +1,17 @@
-use Rattle.page_master.proofs.MasterLaws.{none-spoiled, some-spoiled}
+use lib.ListN.{length}
+use Rattle.base.proofs.Tests.{eqb_yes, eqb_no}
+use Rattle.page.proofs.PageLaws.{writes_more}
+use Rattle.page_master.specs.Master.{spoiled_line}
 use Rattle.page_master.proofs.put_line.Goals as goal
 
 pub returns-then-count_reading-statuses : goal.returns-then-count_reading-statuses
+unfolding spoiled_line
 returns-then-count_reading-statuses c =
-    let a = c.args in
-    none-spoiled _ a.track a.statuses.now _ c.count_reading.ensures c.if-count_reading-statuses.true
+    let n = c.count_reading in
+    rw (← n.ensures, eqb_no n.result (length c.args.statuses.now) c.if-count_reading-statuses.true) (simp writes_more (cc))
 
-pub returns : goal.returns
-returns c =
-    let a = c.args in
-    some-spoiled _ a.track a.statuses.now _ c.count_reading.ensures _ _ _ _ c.if-count_reading-statuses.false c.counted-a.ensures
-    c.words-b.ensures c.put_unread-c.ensures c.words.ensures
+pub returns-else-count_reading-statuses : goal.returns-else-count_reading-statuses
+unfolding spoiled_line
+returns-else-count_reading-statuses c =
+    let n = c.count_reading in
+    rw (← n.ensures, eqb_yes n.result (length c.args.statuses.now) c.if-count_reading-statuses.false)

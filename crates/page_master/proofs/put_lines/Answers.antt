@@ -1,46 +1,20 @@
-use mathlib.Core.Path.{refl, ◌∙◌}
-use Prim.Native.Nat.{ℕ, suc}
+use Prim.Native.Nat.{ℕ}
 use native.Mathlib.Omega.{arith}
-use Rattle.page.specs.Page.{sheet}
-use Rattle.page.proofs.PageLaws.{none-together}
-use Rattle.image_statuses.specs.Statuses.{d64_statuses}
+use Rattle.page.proofs.PageLaws.{none-together, one_more_from_1}
 use Rattle.page_status.proofs.MarkLaws.{no_tracks, track_more}
+use Rattle.image_statuses.specs.Statuses.{d64_statuses}
 use Rattle.page_master.specs.Master.{spoiled_line}
-use Rattle.page_master.proofs.MasterLaws.{line_more, all_tracks}
 use Rattle.page_master.proofs.put_lines.Goals as goal
 
 pub loop-track-init : goal.loop-track-init
-loop-track-init c =
-    let a = c.args in
-    let f = d64_statuses a.d64.now a.highest in (
-      omega arith,
-      refl,
-      none-together (sheet a.page.now a.at) (λ (k : ℕ). spoiled_line (suc k) (f (suc k))),
-      no_tracks f a.met.now,
-    )
-
-pub overflow_add-track : goal.overflow_add-track
-overflow_add-track c = omega arith
-
-pub loop-track-smaller : goal.loop-track-smaller
-loop-track-smaller c = omega arith
+loop-track-init c = record { page_after = none-together _ _; met_after = no_tracks _ _ }
 
 pub loop-track-preserved : goal.loop-track-preserved
 loop-track-preserved c =
-    let p = c.put_track-behind in
     let l = c.loop-track in
-    let a = c.args in (
-      omega arith,
-      p.auto.page ∙ l.invariant.1,
-      line_more a.d64.now a.highest (sheet a.page.now a.at) (sheet l.page l.behind) (sheet p.new.page p.result)
-          l.track l.invariant.2 p.ensures.result_after,
-      track_more (d64_statuses a.d64.now a.highest) l.track a.met.now l.met _ l.invariant.3 p.ensures.met_after,
-    )
-
-pub returns : goal.returns
-returns c =
-    let l = c.loop-track in
-    let a = c.args in
-    let both = all_tracks a.d64.now a.highest (sheet a.page.now a.at) (sheet l.page l.behind) l.track a.met.now l.met
-    (omega arith) l.invariant.2 l.invariant.3 in
-    record { result_after = both.0; met_after = both.1 }
+    let p = c.put_track in
+    let f = d64_statuses c.args.d64.now c.args.highest in
+    record {
+      page_after = one_more_from_1 _ _ _ (λ (t : ℕ). spoiled_line t (f t)) l.track (omega arith) l.invariant.page_after p.ensures.page_after;
+      met_after = track_more f l.track _ _ _ (omega arith) l.invariant.met_after p.ensures.met_after;
+    }

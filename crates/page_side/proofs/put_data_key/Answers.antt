@@ -1,8 +1,6 @@
-use Rattle.page.proofs.PageLaws.{then}
 use Rattle.page_side.specs.Frame.{data_key}
 use Rattle.page_side.proofs.put_data_key.Goals as goal
 
 pub returns : goal.returns
 unfolding data_key
-returns c = then _ _ _ _ _ c.put_entry-a.ensures
-    c.put_entry.ensures
+returns c = cc

@@ -1,6 +1,7 @@
-use Rattle.page_slot.proofs.SpanLaws.{span_put}
+use Rattle.std.proofs.Common.{rules}
+use Rattle.page_slot.specs.Span.{span_text}
 use Rattle.page_slot.proofs.put_span.Goals as goal
 
 pub returns : goal.returns
-returns c =
-    span_put _ _ _ _ _ _ _ c.counted-a.ensures c.counted-b.ensures c.counted-c.ensures c.counted.ensures
+unfolding span_text
+returns c = search rules

@@ -1,8 +1,7 @@
-use Rattle.page_slot.proofs.SlotLaws.{line_put}
+use Rattle.page.proofs.PageLaws.{writes_more}
+use Rattle.page_slot.specs.Slots.{slot_line}
 use Rattle.page_slot.proofs.put_window.Goals as goal
 
 pub returns : goal.returns
-returns c =
-    let a = c.args in
-    line_put _ _ _ _ _ a.window.now a.slot a.zone c.estimate_orbit-chosen.result c.estimate_orbit-chosen.ensures.0
-    c.put_name-a.ensures c.put_span-b.ensures c.put_if_whole-c.ensures c.words.ensures
+unfolding slot_line
+returns c = simp writes_more (cc)

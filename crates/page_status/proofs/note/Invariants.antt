@@ -1,11 +1,7 @@
 use mathlib.Core.Path.{◌≡◌}
-use Prim.Native.Nat.{◌-◌, ◌≤◌}
-use lib.ListN.{length, drop}
+use lib.ListN.{drop}
 use Rattle.page_status.specs.Marks.{noted}
 use Rattle.page_status.proofs.note.Given as goal
 
-abbrev pub invariant-loop-j : goal.invariant-loop-j
-invariant-loop-j l = (l.j ≤ length l.statuses) × (noted (drop l.j l.statuses) l.met ≡ noted l.statuses l.initial.met)
-
-abbrev pub decreases-loop-j : goal.decreases-loop-j
-decreases-loop-j l = length l.statuses - l.j
+abbrev pub invariant-loop-status : goal.invariant-loop-status
+invariant-loop-status l = noted (drop l.status-index l.statuses) l.met ≡ noted l.statuses l.initial.met

@@ -1,6 +1,7 @@
-use Rattle.page_symbols.proofs.SymbolLaws.{line_put}
+use Rattle.page.proofs.PageLaws.{writes_more}
+use Rattle.page_symbols.specs.Symbols.{symbol_line}
 use Rattle.page_symbols.proofs.put_line.Goals as goal
 
 pub returns : goal.returns
-returns c =
-    line_put _ _ _ _ c.put_name-behind.ensures c.words.ensures
+unfolding symbol_line
+returns c = simp writes_more (cc)

@@ -1,14 +1,13 @@
 use mathlib.Core.Path.{◌≡◌}
-use Prim.Native.Nat.{◌-◌, ◌≤◌}
-use lib.ListN.{length}
-use Rattle.page.specs.Page.{sheet, writes}
+use Prim.Native.Nat.{◌-◌}
+use Rattle.page.specs.Page.{writes}
+use Rattle.page_status.specs.Marks.{noted_to}
+use Rattle.image_statuses.specs.Statuses.{statuses_of}
 use Rattle.page_track.specs.Tracks.{lines_text}
-use Rattle.page_track.specs.Inside.{noted_to}
 use Rattle.page_track.proofs.put_lines.Given as goal
 
 abbrev pub invariant-loop-track : goal.invariant-loop-track
-invariant-loop-track l = (l.track ≤ 42) × (length l.page ≡ length l.initial.page) × (sheet l.page l.behind ≡ writes (sheet l.initial.page l.at) (lines_text l.image l.track))
-    × (l.met ≡ noted_to l.image l.track l.initial.met)
-
-abbrev pub decreases-loop-track : goal.decreases-loop-track
-decreases-loop-track l = 42 - l.track
+invariant-loop-track l = record {
+  page_after : l.page ≡ writes l.initial.page (lines_text l.image (l.track - 1));
+  met_after : l.met ≡ noted_to (statuses_of l.image) (l.track - 1) l.initial.met;
+}

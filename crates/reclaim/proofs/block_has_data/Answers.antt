@@ -3,7 +3,6 @@ use Rattle.geometry.proofs.D64Laws.{offset_le}
 use Rattle.base.specs.Bytes.{any_nonzero}
 use mathlib.Core.Path.{ap, ◌∙◌}
 use native.Mathlib.Omega.{arith}
-use borrow.Author.Rules.{rules}
 use Rattle.reclaim.proofs.block_has_data.Goals as goal
 
 pub overflow_add-end : goal.overflow_add-end

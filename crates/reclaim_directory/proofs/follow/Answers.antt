@@ -2,7 +2,6 @@ use Rattle.reclaim_directory.proofs.ChainSteps.{unmarked_le, chain_end, chain_in
 use Rattle.reclaim_directory.proofs.MarkLaws.{unmarked-set, address_facts}
 use borrow.Author.Tests.{not-true, not-false}
 use Rattle.geometry.proofs.ZoneLaws.{sectors_of_lem}
-use Rattle.image_rings.specs.Rings.{rings}
 use Rattle.image_sector.specs.Media.{medium_of}
 use Rattle.reclaim_directory.specs.Chains.{chain_at}
 use Rattle.reclaim_directory.specs.Marks.{mark_place, unmarked}
@@ -23,8 +22,7 @@ loop-track-init c =
 pub returns-then-not-is_address : goal.returns-then-not-is_address
 returns-then-not-is_address c =
     let a = c.args in
-    c.broken_chain.ensures
-    ∙ chain_invalid (links_up_to a.highest disk1541) ((medium_of a.kind (rings a.starts.now a.lengths.now)).read a.image.now)
+    chain_invalid (links_up_to a.layout.now.highest disk1541) ((medium_of a.layout.now.kind a.layout.now.rings).read a.image.now)
     c.loop-track.marks c.loop-track.n
     c.loop-track.track c.loop-track.sector c.loop-track-test.true
     (sym c.is_address.ensures ∙ c.if-not-is_address.true)
@@ -32,26 +30,25 @@ returns-then-not-is_address c =
 
 pub mark_place-at-requires : goal.mark_place-at-requires
 mark_place-at-requires c =
-    let valid : is_address (links_up_to c.args.highest disk1541) c.loop-track.track c.loop-track.sector ≡ true = sym c.is_address.ensures ∙ c.if-not-is_address.false in
-    let address : (0 < c.loop-track.track) × (c.loop-track.track ≤ 42) × (c.loop-track.sector < 21) = let f = address_facts (links_up_to c.args.highest disk1541) _ _ valid in
-    omega (arith, f.0, f.1, f.2, (sectors_of_lem c.loop-track.track).1, c.requires) in
+    let valid : is_address (links_up_to c.args.layout.now.highest disk1541) c.loop-track.track c.loop-track.sector ≡ true = sym c.is_address.ensures ∙ c.if-not-is_address.false in
+    let address : (0 < c.loop-track.track) × (c.loop-track.track ≤ 42) × (c.loop-track.sector < 21) = let f = address_facts (links_up_to c.args.layout.now.highest disk1541) _ _ valid in
+    omega (arith, f.0, f.1, f.2, (sectors_of_lem c.loop-track.track).1, c.requires.highest_bound) in
     address
 
 pub bounds-marks-at : goal.bounds-marks-at
 unfolding mark_place
 bounds-marks-at c =
-    let valid : is_address (links_up_to c.args.highest disk1541) c.loop-track.track c.loop-track.sector ≡ true = sym c.is_address.ensures ∙ c.if-not-is_address.false in
-    let address : (0 < c.loop-track.track) × (c.loop-track.track ≤ 42) × (c.loop-track.sector < 21) = let f = address_facts (links_up_to c.args.highest disk1541) _ _ valid in
-    omega (arith, f.0, f.1, f.2, (sectors_of_lem c.loop-track.track).1, c.requires) in
+    let valid : is_address (links_up_to c.args.layout.now.highest disk1541) c.loop-track.track c.loop-track.sector ≡ true = sym c.is_address.ensures ∙ c.if-not-is_address.false in
+    let address : (0 < c.loop-track.track) × (c.loop-track.track ≤ 42) × (c.loop-track.sector < 21) = let f = address_facts (links_up_to c.args.layout.now.highest disk1541) _ _ valid in
+    omega (arith, f.0, f.1, f.2, (sectors_of_lem c.loop-track.track).1, c.requires.highest_bound) in
     let place : c.mark_place-at.result < 882 = let f = address in omega (arith, f.0, f.1, f.2, c.mark_place-at.ensures) in
     place
 
 pub returns-then-marks-at : goal.returns-then-marks-at
 returns-then-marks-at c =
-    let valid : is_address (links_up_to c.args.highest disk1541) c.loop-track.track c.loop-track.sector ≡ true = sym c.is_address.ensures ∙ c.if-not-is_address.false in
+    let valid : is_address (links_up_to c.args.layout.now.highest disk1541) c.loop-track.track c.loop-track.sector ≡ true = sym c.is_address.ensures ∙ c.if-not-is_address.false in
     let a = c.args in
-    c.broken_chain-then-marks-at.ensures
-    ∙ chain_marked (links_up_to a.highest disk1541) ((medium_of a.kind (rings a.starts.now a.lengths.now)).read a.image.now)
+    chain_marked (links_up_to a.layout.now.highest disk1541) ((medium_of a.layout.now.kind a.layout.now.rings).read a.image.now)
     c.loop-track.marks c.loop-track.n
     c.loop-track.track c.loop-track.sector c.loop-track-test.true
     valid c.mark_place-at.result c.mark_place-at.ensures c.if-marks-at.true
@@ -60,28 +57,27 @@ returns-then-marks-at c =
 pub bounds-marks-at-in-loop-track : goal.bounds-marks-at-in-loop-track
 unfolding mark_place
 bounds-marks-at-in-loop-track c =
-    let valid : is_address (links_up_to c.args.highest disk1541) c.loop-track.track c.loop-track.sector ≡ true = sym c.is_address.ensures ∙ c.if-not-is_address.false in
-    let address : (0 < c.loop-track.track) × (c.loop-track.track ≤ 42) × (c.loop-track.sector < 21) = let f = address_facts (links_up_to c.args.highest disk1541) _ _ valid in
-    omega (arith, f.0, f.1, f.2, (sectors_of_lem c.loop-track.track).1, c.requires) in
+    let valid : is_address (links_up_to c.args.layout.now.highest disk1541) c.loop-track.track c.loop-track.sector ≡ true = sym c.is_address.ensures ∙ c.if-not-is_address.false in
+    let address : (0 < c.loop-track.track) × (c.loop-track.track ≤ 42) × (c.loop-track.sector < 21) = let f = address_facts (links_up_to c.args.layout.now.highest disk1541) _ _ valid in
+    omega (arith, f.0, f.1, f.2, (sectors_of_lem c.loop-track.track).1, c.requires.highest_bound) in
     let place : c.mark_place-at.result < 882 = let f = address in omega (arith, f.0, f.1, f.2, c.mark_place-at.ensures) in
     place
 
-pub read_sector-found-requires : goal.read_sector-found-requires
-read_sector-found-requires c =
-    let valid : is_address (links_up_to c.args.highest disk1541) c.loop-track.track c.loop-track.sector ≡ true = sym c.is_address.ensures ∙ c.if-not-is_address.false in
-    let address : (0 < c.loop-track.track) × (c.loop-track.track ≤ 42) × (c.loop-track.sector < 21) = let f = address_facts (links_up_to c.args.highest disk1541) _ _ valid in
-    omega (arith, f.0, f.1, f.2, (sectors_of_lem c.loop-track.track).1, c.requires) in
+pub read-found-requires : goal.read-found-requires
+read-found-requires c =
+    let valid : is_address (links_up_to c.args.layout.now.highest disk1541) c.loop-track.track c.loop-track.sector ≡ true = sym c.is_address.ensures ∙ c.if-not-is_address.false in
+    let address : (0 < c.loop-track.track) × (c.loop-track.track ≤ 42) × (c.loop-track.sector < 21) = let f = address_facts (links_up_to c.args.layout.now.highest disk1541) _ _ valid in
+    omega (arith, f.0, f.1, f.2, (sectors_of_lem c.loop-track.track).1, c.requires.highest_bound) in
     let a = address in record { track_nonzero = (a.0, a.1); complete = c.requires.complete }
 
 pub returns-then-not-found : goal.returns-then-not-found
 returns-then-not-found c =
-    let valid : is_address (links_up_to c.args.highest disk1541) c.loop-track.track c.loop-track.sector ≡ true = sym c.is_address.ensures ∙ c.if-not-is_address.false in
+    let valid : is_address (links_up_to c.args.layout.now.highest disk1541) c.loop-track.track c.loop-track.sector ≡ true = sym c.is_address.ensures ∙ c.if-not-is_address.false in
     let a = c.args in
-    c.broken_chain-then-not-found.ensures
-    ∙ chain_unread (links_up_to a.highest disk1541) ((medium_of a.kind (rings a.starts.now a.lengths.now)).read a.image.now)
+    chain_unread (links_up_to a.layout.now.highest disk1541) ((medium_of a.layout.now.kind a.layout.now.rings).read a.image.now)
     c.loop-track.marks c.loop-track.n
     c.loop-track.track c.loop-track.sector c.loop-track-test.true
-    valid c.mark_place-at.result c.mark_place-at.ensures c.read_sector-found.result c.read_sector-found.ensures
+    valid c.mark_place-at.result c.mark_place-at.ensures c.read-found.result c.read-found.ensures
     c.if-marks-at.false (c.if-not-found.true)
     ∙ c.loop-track.invariant.3
 
@@ -91,9 +87,9 @@ overflow_add-n c = omega arith
 pub loop-track-smaller : goal.loop-track-smaller
 unfolding mark_place
 loop-track-smaller c =
-    let valid : is_address (links_up_to c.args.highest disk1541) c.loop-track.track c.loop-track.sector ≡ true = sym c.is_address.ensures ∙ c.if-not-is_address.false in
-    let address : (0 < c.loop-track.track) × (c.loop-track.track ≤ 42) × (c.loop-track.sector < 21) = let f = address_facts (links_up_to c.args.highest disk1541) _ _ valid in
-    omega (arith, f.0, f.1, f.2, (sectors_of_lem c.loop-track.track).1, c.requires) in
+    let valid : is_address (links_up_to c.args.layout.now.highest disk1541) c.loop-track.track c.loop-track.sector ≡ true = sym c.is_address.ensures ∙ c.if-not-is_address.false in
+    let address : (0 < c.loop-track.track) × (c.loop-track.track ≤ 42) × (c.loop-track.sector < 21) = let f = address_facts (links_up_to c.args.layout.now.highest disk1541) _ _ valid in
+    omega (arith, f.0, f.1, f.2, (sectors_of_lem c.loop-track.track).1, c.requires.highest_bound) in
     let place : c.mark_place-at.result < 882 = let f = address in omega (arith, f.0, f.1, f.2, c.mark_place-at.ensures) in
     let fewer : unmarked c.loop-track.marks ≡ 1 + unmarked (set c.loop-track.marks c.mark_place-at.result true) = omega (arith, unmarked-set c.loop-track.marks c.mark_place-at.result (omega (arith, place)) c.if-marks-at.false) in
     let h = fewer in omega arith
@@ -101,9 +97,9 @@ loop-track-smaller c =
 pub loop-track-preserved : goal.loop-track-preserved
 unfolding mark_place
 loop-track-preserved c =
-    let valid : is_address (links_up_to c.args.highest disk1541) c.loop-track.track c.loop-track.sector ≡ true = sym c.is_address.ensures ∙ c.if-not-is_address.false in
-    let address : (0 < c.loop-track.track) × (c.loop-track.track ≤ 42) × (c.loop-track.sector < 21) = let f = address_facts (links_up_to c.args.highest disk1541) _ _ valid in
-    omega (arith, f.0, f.1, f.2, (sectors_of_lem c.loop-track.track).1, c.requires) in
+    let valid : is_address (links_up_to c.args.layout.now.highest disk1541) c.loop-track.track c.loop-track.sector ≡ true = sym c.is_address.ensures ∙ c.if-not-is_address.false in
+    let address : (0 < c.loop-track.track) × (c.loop-track.track ≤ 42) × (c.loop-track.sector < 21) = let f = address_facts (links_up_to c.args.layout.now.highest disk1541) _ _ valid in
+    omega (arith, f.0, f.1, f.2, (sectors_of_lem c.loop-track.track).1, c.requires.highest_bound) in
     let place : c.mark_place-at.result < 882 = let f = address in omega (arith, f.0, f.1, f.2, c.mark_place-at.ensures) in
     let fewer : unmarked c.loop-track.marks ≡ 1 + unmarked (set c.loop-track.marks c.mark_place-at.result true) = omega (arith, unmarked-set c.loop-track.marks c.mark_place-at.result (omega (arith, place)) c.if-marks-at.false) in
     let a = c.args in
@@ -111,11 +107,11 @@ loop-track-preserved c =
       simp length-set c.loop-track.invariant.0,
       omega arith,
       c.loop-track.invariant.2,
-      sym (chain_next (links_up_to a.highest disk1541)
-          ((medium_of a.kind (rings a.starts.now a.lengths.now)).read a.image.now)
+      sym (chain_next (links_up_to a.layout.now.highest disk1541)
+          ((medium_of a.layout.now.kind a.layout.now.rings).read a.image.now)
           c.loop-track.marks c.loop-track.n
           c.loop-track.track c.loop-track.sector c.loop-track-test.true
-          valid c.mark_place-at.result c.mark_place-at.ensures c.read_sector-found.result c.read_sector-found.ensures
+          valid c.mark_place-at.result c.mark_place-at.ensures c.read-found.result c.read-found.ensures
           c.if-marks-at.false (omega (arith, place)) (c.if-not-found.false))
           ∙ c.loop-track.invariant.3,
     )
@@ -123,6 +119,6 @@ loop-track-preserved c =
 pub returns : goal.returns
 returns c =
     let a = c.args in
-    chain_end (links_up_to a.highest disk1541) ((medium_of a.kind (rings a.starts.now a.lengths.now)).read a.image.now)
+    chain_end (links_up_to a.layout.now.highest disk1541) ((medium_of a.layout.now.kind a.layout.now.rings).read a.image.now)
     c.loop-track.marks c.loop-track.n
     c.loop-track.track c.loop-track.sector c.loop-track-test.false ∙ c.loop-track.invariant.3

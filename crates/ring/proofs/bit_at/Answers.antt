@@ -1,5 +1,3 @@
-use borrow.Author.Rules.{rules}
-use native.Mathlib.Omega.{arith}
 use lib.Bits.{and_mask}
 use Rattle.ring.specs.Bit.{bit_at}
 use Rattle.ring.proofs.RingLaws.{place_in}

@@ -1,5 +1,4 @@
 use Rattle.ring.proofs.Words.{eight_are}
-use borrow.Author.Rules.{rules}
 use Rattle.ring.proofs.eight_bytes.Goals as goal
 
 pub returns : goal.returns

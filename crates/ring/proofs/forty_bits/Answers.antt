@@ -1,5 +1,4 @@
 use Rattle.ring.proofs.Words.{forty_in}
-use borrow.Author.Rules.{rules}
 use Rattle.ring.proofs.forty_bits.Goals as goal
 
 pub returns : goal.returns

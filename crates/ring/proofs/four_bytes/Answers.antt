@@ -3,7 +3,6 @@ use mathlib.Core.Path.{◌∙◌}
 use native.Mathlib.Omega.{arith}
 use Rattle.ring.proofs.RingLaws.{Bytes}
 use Rattle.ring.proofs.Words.{four_or, four_are}
-use borrow.Author.Rules.{rules}
 use Rattle.ring.proofs.four_bytes.Goals as goal
 
 pub overflow_cast-result : goal.overflow_cast-result

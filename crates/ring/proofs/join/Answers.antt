@@ -1,7 +1,6 @@
 use native.Mathlib.Omega.{arith}
 use lib.Pow.{pow_pos}
 use Rattle.ring.proofs.WholeBytes.{one_shifted, join_is, join_lt}
-use borrow.Author.Rules.{rules}
 use Rattle.ring.proofs.join.Goals as goal
 
 pub overflow_sub-mask : goal.overflow_sub-mask

@@ -1,11 +1,10 @@
-use Prim.Native.Nat.{ℕ, ◌-◌, ◌*◌, ◌/◌, ◌%◌, ◌^◌}
+use Prim.Native.Nat.{◌-◌, ◌*◌, ◌/◌, ◌%◌, ◌^◌}
 use mathlib.Core.Path.{◌∙◌}
 use native.Mathlib.Omega.{arith}
 use lib.Bits.{bit_or, and_mask}
 use lib.ListN.{get_or}
 use Rattle.ring.proofs.RingLaws.{Bytes}
 use Rattle.ring.proofs.WholeBytes.{pair_is, byte_across}
-use borrow.Author.Rules.{rules}
 use Rattle.ring.proofs.read_byte.Goals as goal
 
 pub overflow_cast-pair : goal.overflow_cast-pair

@@ -1,6 +1,5 @@
 use native.Mathlib.Omega.{arith}
 use Rattle.ring.proofs.WholeBytes.{shifted_is}
-use borrow.Author.Rules.{rules}
 use Rattle.ring.proofs.shifted.Goals as goal
 
 pub overflow_cast-result-3 : goal.overflow_cast-result-3

@@ -1,4 +1,3 @@
-use borrow.Author.Rules.{rules}
 use native.Mathlib.Omega.{arith}
 use Rattle.ring.proofs.RingLaws.{place_in, set-one, set-zero}
 use Rattle.ring.proofs.write_bit.Goals as goal
@@ -16,4 +15,4 @@ pub returns-then-value-ne0 : goal.returns-then-value-ne0
 returns-then-value-ne0 c = set-one _ _ _ c.if-value-ne0.true
 
 pub returns-else-value-ne0 : goal.returns-else-value-ne0
-returns-else-value-ne0 c = set-zero _ _ _ c.if-value-ne0.false (c.slice_known-1.given _).fits
+returns-else-value-ne0 c = set-zero _ _ _ c.if-value-ne0.false (omega arith)

@@ -8,5 +8,5 @@ returns c =
     let a = c.args in
     byte_written a.ring.now a.i a.s _ a.byte c.requires.i_in_bounds.0
     c.requires.i_in_bounds.1 c.wrap-next.ensures.0
-    (λ k. (c.slice_known-1.given k).fits) (omega arith)
+    (λ k. search rules) (omega arith)
     _ _ _ c.join.ensures c.shifted.ensures c.join-2.ensures

@@ -1,7 +1,6 @@
 use native.Mathlib.Omega.{arith}
 use lib.ListN.{length-set}
 use native.Mathlib.Numerals.{add-one}
-use borrow.Author.Rules.{rules}
 use Rattle.scan.proofs.put_row.Goals as goal
 
 pub bounds-rows-n-2 : goal.bounds-rows-n-2

@@ -1,14 +1,8 @@
-use Prim.Native.Nat.{ℕ, ◌≤◌, ◌<◌, ◌-◌, ◌+◌, ◌*◌, ◌%◌}
-use mathlib.Core.Path.{◌≡◌, sym, ap, ◌∙◌}
-use mathlib.Core.Logic.{⊎_elim}
-use native.Mathlib.Omega.{arith}
-use native.Mathlib.Nat.{add-zero, sub-zero, mod-lt, mod-add-mod}
+use Prim.Native.Nat.{◌≤◌, ◌-◌, ◌+◌, ◌*◌, ◌%◌}
+use mathlib.Core.Path.{◌≡◌}
 use lib.ListN.{length}
-use lib.Count.{leading_le, trailing_le}
 use Rattle.scan_sync.specs.Sync.{sync_from}
 use Rattle.ring.specs.Bit.{bit_at}
-use Rattle.scan_sync.proofs.SyncLaws.{loop_out}
-use Rattle.scan_sync.proofs.ChunkLaws.{ChunkIs, chunk_is, chunk_ones, chunk_hit, chunk_reset, front, in_front, in_back}
 use Rattle.scan_sync.proofs.find_sync_end.Given as goal
 
 abbrev pub invariant-loop-offset : goal.invariant-loop-offset

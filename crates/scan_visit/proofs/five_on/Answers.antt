@@ -2,7 +2,6 @@ use Prim.Native.Nat.{◌+◌, ◌<◌}
 use mathlib.Core.Path.{refl, sym}
 use native.Mathlib.Nat.{mod-lt, mod-eq_of_lt}
 use native.Mathlib.Omega.{arith}
-use borrow.Author.Rules.{rules}
 use Rattle.scan_visit.proofs.five_on.Goals as goal
 
 pub returns-then-i-n : goal.returns-then-i-n

@@ -1,81 +1,61 @@
-use Prim.Native.Nat.{◌+◌, ◌-◌, ◌*◌}
-use mathlib.Core.Path.{◌≡◌, refl, sym, subst, ◌∙◌}
-use native.Mathlib.Omega.{arith}
-use borrow.Author.Tests.{not-true, not-false}
-use lib.ListN.{length}
+use Rattle.std.proofs.Common.{ℕ, ◌≡◌, ◌+◌, ◌<◌, arith, refl, sym, ap, subst, ◌∙◌}
+use Rattle.std.specs.Prelude.{Option, None, IfSome}
 use Rattle.ring.specs.Bit.{bits, bit_at}
-use Rattle.scan.specs.declared.NextRecord.{NextRecord}
-use Rattle.scan.specs.BadSymbols.{bad_symbol}
-use Rattle.scan.specs.Answers.{next_with}
-use Rattle.scan.proofs.NextLaws.{NextIs, next-some, next-none}
-use Rattle.scan.proofs.BadSoFar.{BadSoFar, none_from_0, bad_passed, bad-ends}
-use Rattle.sector.specs.Inside.{Copies, search}
+use Rattle.scan.specs.declared.RecordAt.{RecordAt}
+use Rattle.scan.specs.Scan.{a_record, records_from}
+use Rattle.scan.specs.Answers.{next_of, next_with}
+use Rattle.scan.proofs.NextLaws.{next-some, next-none}
+use Rattle.scan.proofs.BadSoFar.{none_from_0, bad_passed, bad-ends}
+use Rattle.sector.specs.Inside.{Copies, search, with_record}
 use Rattle.sector.proofs.CopiesLaws.{Searching, search_starts, search-ends, search_room, search_goes_on}
 use Rattle.sector.proofs.find_copies.Goals as goal
 
-pub overflow_mul-end : goal.overflow_mul-end
-overflow_mul-end c =
-    let p = c.requires in omega (arith, p.small)
-
-pub loop-bytes-init : goal.loop-bytes-init
-loop-bytes-init c =
+pub loop-row-init : goal.loop-row-init
+loop-row-init c =
     let a = c.args in (
       refl,
       search_starts a.payload.now a.places.now a.ring.now a.track a.sector,
       none_from_0 a.ring.now a.track,
     )
 
-pub next_met-met-requires : goal.next_met-met-requires
-next_met-met-requires c =
-    let p = c.requires in record { ring = p; end_bound = omega (arith, p.small) }
-
-pub or_else-bad-requires : goal.or_else-bad-requires
-or_else-bad-requires c =
-    tt
-
-pub shape_of-places-then-not-next : goal.shape_of-places-then-not-next
-shape_of-places-then-not-next c =
-    c.loop-bytes.invariant.0
-
-pub returns-then-not-next : goal.returns-then-not-next
-returns-then-not-next c =
-    let came : NextRecord = next_with c.next_met-met.result.next c.next_met-met.new.payload in
+pub returns-in_default : goal.returns-in_default
+returns-in_default c =
     let a = c.args in
-    let none = next-none _ _ _ _ came c.next_met-met.ensures.0 (not-true _ c.if-not-next.true) in (
-      search-ends a.payload.now a.places.now a.ring.now a.track a.sector _ c.loop-bytes.bit c.loop-bytes.invariant.1 none,
-      bad-ends c.loop-bytes.invariant.2 _ _ c.next_met-met.ensures.2 c.or_else-bad.ensures none,
+    let over : None ≡ next_of (records_from (bit_at a.ring.now) a.track (bits a.ring.now) c.loop-row.bit) =
+    sym (ap (λ (r : Option RecordAt). next_with r c.next_met-met.new.payload) c.in_default.is) ∙ c.next_met-met.ensures.next in
+    let none = next-none _ _ _ _ over in (
+      search-ends a.payload.now a.places.now a.ring.now a.track a.sector _ c.loop-row.bit c.loop-row.invariant.1 none,
+      bad-ends c.loop-row.invariant.2 _ _ c.next_met-met.ensures.bad c.or-bad.ensures none,
     )
-
-pub overflow_add-bit : goal.overflow_add-bit
-overflow_add-bit c =
-    omega (arith, c.next_met-met.ensures.1)
 
 pub with_record-seen-requires : goal.with_record-seen-requires
 with_record-seen-requires c =
-    let came : NextRecord = next_with c.next_met-met.result.next c.next_met-met.new.payload in
-    let is_next : let a = c.args in NextIs (bit_at a.ring.now) a.track (bits a.ring.now) c.loop-bytes.bit came.row = next-some _ _ _ _ came c.next_met-met.ensures.0 (not-false _ c.if-not-next.false) in
+    let next = next-some _ _ _ _ (a_record c.in-Some.row.sector c.in-Some.row.place c.next_met-met.new.payload)
+    (sym (ap (λ (r : Option RecordAt). next_with r c.next_met-met.new.payload) c.in-Some.is) ∙ c.next_met-met.ensures.next) in
+    let place = subst (λ (r : Option RecordAt). IfSome r (λ found. found.place < 2000000)) c.in-Some.is c.next_met-met.ensures.place in
     let a = c.args in (
-      search_room a.payload.now a.places.now a.ring.now a.track a.sector _ c.loop-bytes.bit c.loop-bytes.invariant.1
-          c.requires.small _ is_next,
-      c.next_met-met.ensures.1,
+      search_room a.payload.now a.places.now a.ring.now a.track a.sector _ c.loop-row.bit c.loop-row.invariant.1
+          c.requires.small _ next,
+      place,
     )
 
-pub loop-bytes-smaller : goal.loop-bytes-smaller
-loop-bytes-smaller c =
-    let came : NextRecord = next_with c.next_met-met.result.next c.next_met-met.new.payload in
-    let is_next : let a = c.args in NextIs (bit_at a.ring.now) a.track (bits a.ring.now) c.loop-bytes.bit came.row = next-some _ _ _ _ came c.next_met-met.ensures.0 (not-false _ c.if-not-next.false) in
-    let i = is_next in
-    omega (arith, i.below, i.far)
+pub loop-row-smaller : goal.loop-row-smaller
+loop-row-smaller c =
+    let next = next-some _ _ _ _ (a_record c.in-Some.row.sector c.in-Some.row.place c.next_met-met.new.payload)
+    (sym (ap (λ (r : Option RecordAt). next_with r c.next_met-met.new.payload) c.in-Some.is) ∙ c.next_met-met.ensures.next) in
+    omega (arith, next.below, next.far)
 
-pub loop-bytes-preserved : goal.loop-bytes-preserved
-loop-bytes-preserved c =
-    let came : NextRecord = next_with c.next_met-met.result.next c.next_met-met.new.payload in
-    let is_next : let a = c.args in NextIs (bit_at a.ring.now) a.track (bits a.ring.now) c.loop-bytes.bit came.row = next-some _ _ _ _ came c.next_met-met.ensures.0 (not-false _ c.if-not-next.false) in
+pub loop-row-preserved : goal.loop-row-preserved
+loop-row-preserved c =
+    let row = a_record c.in-Some.row.sector c.in-Some.row.place c.next_met-met.new.payload in
+    let next = next-some _ _ _ _ row
+    (sym (ap (λ (r : Option RecordAt). next_with r c.next_met-met.new.payload) c.in-Some.is) ∙ c.next_met-met.ensures.next) in
     let a = c.args in (
-      c.with_record-seen.auto.places ∙ c.loop-bytes.invariant.0,
-      subst (λ (y : Copies). Searching a.payload.now a.places.now a.ring.now a.track a.sector y
-          (c.next_met-met.result.next.place + 2600)) (sym c.with_record-seen.ensures)
-          (search_goes_on a.payload.now a.places.now a.ring.now a.track a.sector _ c.loop-bytes.bit c.loop-bytes.invariant.1
-          c.requires.small _ is_next),
-      bad_passed c.loop-bytes.invariant.2 _ _ c.next_met-met.ensures.2 c.or_else-bad.ensures _ is_next,
+      c.with_record-seen.auto.places ∙ c.loop-row.invariant.0,
+      subst (λ (y : Copies). Searching a.payload.now a.places.now a.ring.now a.track a.sector y (c.in-Some.row.place + 2600))
+          (ap (λ (n : ℕ). with_record n (search c.loop-row.seen c.loop-row.payload c.loop-row.places) row) (sym c.from.ensures)
+          ∙ sym c.with_record-seen.ensures)
+          (search_goes_on a.payload.now a.places.now a.ring.now a.track a.sector _ c.loop-row.bit c.loop-row.invariant.1
+          c.requires.small _ next),
+      bad_passed c.loop-row.invariant.2 _ _ c.next_met-met.ensures.bad c.or-bad.ensures _ next,
     )

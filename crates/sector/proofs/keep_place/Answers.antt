@@ -1,6 +1,5 @@
 use mathlib.Core.Path.{sym}
 use lib.Seq.{set_out}
-use borrow.Author.Rules.{rules}
 use Rattle.sector.proofs.keep_place.Goals as goal
 
 pub returns-else-n-places : goal.returns-else-n-places

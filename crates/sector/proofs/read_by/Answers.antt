@@ -2,10 +2,9 @@ use mathlib.Core.Path.{ap, ◌∙◌}
 use Rattle.sector.specs.declared.SectorRead.{SectorRead}
 use Rattle.sector.specs.Rules.{rule_of}
 use Rattle.sector.proofs.RuleLaws.{sector-met}
-use borrow.Author.Rules.{rules}
 use Rattle.sector.proofs.read_by.Goals as goal
 
 pub returns : goal.returns
 returns c =
     let a = c.args in
-    ap (λ (y : SectorRead). y.sector) c.read_met-read.ensures ∙ sector-met (rule_of a.rule) a.ring.now a.track a.sector
+    ap (λ (y : SectorRead). y.sector) c.read_met.ensures ∙ sector-met (rule_of a.rule) a.ring.now a.track a.sector

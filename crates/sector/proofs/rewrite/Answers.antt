@@ -1,6 +1,5 @@
 use mathlib.Core.Path.{refl}
 use Rattle.sector.proofs.WrittenLaws.{block-laid}
-use borrow.Author.Rules.{rules}
 use Rattle.sector.proofs.rewrite.Goals as goal
 
 pub returns : goal.returns

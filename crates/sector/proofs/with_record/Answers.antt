@@ -1,6 +1,5 @@
 use Rattle.scan.specs.Scan.{a_record}
 use Rattle.sector.proofs.CopiesLaws.{step_other, step_first, step_later}
-use borrow.Author.Rules.{rules}
 use Rattle.sector.proofs.with_record.Goals as goal
 
 pub returns-then-row-sector : goal.returns-then-row-sector

@@ -1,5 +1,4 @@
 use Rattle.track_build.proofs.Stored.{wrong_sum_lem, no_room_lem, written}
-use borrow.Author.Rules.{rules}
 use Rattle.track_build.proofs.build_track_with_errors.Goals as goal
 
 pub returns-then-payloads-ne0 : goal.returns-then-payloads-ne0

@@ -5,7 +5,6 @@ use lib.Dec.{eqb}
 use lib.ListN.{set}
 use Rattle.track_build.specs.Blocks.{inverted}
 use Rattle.track_build.proofs.Filled.{block-filled}
-use borrow.Author.Rules.{rules}
 use Rattle.track_build.proofs.data_bytes.Goals as goal
 
 pub returns : goal.returns

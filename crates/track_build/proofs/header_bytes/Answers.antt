@@ -1,4 +1,3 @@
-use borrow.Author.Rules.{rules}
 use Rattle.track_build.proofs.header_bytes.Goals as goal
 
 pub returns : goal.returns

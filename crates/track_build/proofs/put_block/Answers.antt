@@ -1,5 +1,4 @@
 use Rattle.track_build.proofs.Stored.{block_put}
-use borrow.Author.Rules.{rules}
 use Rattle.track_build.proofs.put_block.Goals as goal
 
 pub returns : goal.returns

@@ -6,7 +6,6 @@ use lib.Seq.{sets}
 use Rattle.gcr.specs.Groups.{encode}
 use Rattle.track_build.specs.Blocks.{inverted}
 use Rattle.track_build.proofs.Filled.{parts_put}
-use borrow.Author.Rules.{rules}
 use Rattle.track_build.proofs.put_data_block.Goals as goal
 
 pub returns : goal.returns

@@ -1,5 +1,4 @@
 use Rattle.track_build.proofs.Stored.{front_gap, front_block}
-use borrow.Author.Rules.{rules}
 use Rattle.track_build.proofs.put_front.Goals as goal
 
 pub returns-then-code-eq2 : goal.returns-then-code-eq2

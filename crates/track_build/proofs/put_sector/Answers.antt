@@ -2,7 +2,6 @@ use lib.Seq.{sets}
 use Rattle.track_build.proofs.Stored.{slot_by_lem}
 use mathlib.Core.Path.{ap, ◌∙◌}
 use Prim.Native.Nat.{ℕ, ◌+◌}
-use borrow.Author.Rules.{rules}
 use Rattle.track_build.proofs.put_sector.Goals as goal
 
 pub returns : goal.returns

@@ -1,5 +1,4 @@
 use Rattle.track_build.proofs.Stored.{slot-gap, slot_put}
-use borrow.Author.Rules.{rules}
 use Rattle.track_build.proofs.put_slot.Goals as goal
 
 pub returns-then-code-eq3 : goal.returns-then-code-eq3

@@ -1,6 +1,5 @@
 use mathlib.Core.Path.{ap, ◌∙◌}
 use Rattle.track_build.specs.Blocks.{data_bytes}
-use borrow.Author.Rules.{rules}
 use Rattle.track_build.proofs.sector_bytes.Goals as goal
 
 pub returns : goal.returns

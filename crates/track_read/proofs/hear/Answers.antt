@@ -1,26 +1,17 @@
-use Rattle.track_read.proofs.HearLaws.{heard_out, heard_other, heard_again, heard_new}
-use borrow.Author.Rules.{rules}
+use Rattle.std.proofs.Common.{sym, ◌∙◌}
+use Rattle.track_read.proofs.Weights.{given-is, given-not, differs, differs-not, hears_other, hears_again, hears_new}
 use Rattle.track_read.proofs.hear.Goals as goal
 
-pub returns-then-count-sector : goal.returns-then-count-sector
-returns-then-count-sector c =
-    let a = c.args in
-    heard_out a.count a.said a.payload.now a.payloads.now a.statuses.now c.if-count-sector.true
+pub returns-then-ne : goal.returns-then-ne
+returns-then-ne c =
+    hears_other _ _ _ c.args.statuses.now c.if-statuses-sector.false _ _ c.weighed.ensures (differs _ (sym c.ne.ensures ∙ c.if-ne.true))
 
-pub returns-then-number-ne-HANDED_OUT : goal.returns-then-number-ne-HANDED_OUT
-returns-then-number-ne-HANDED_OUT c =
-    let a = c.args in
-    heard_other a.count a.said a.payload.now a.payloads.now a.statuses.now c.if-count-sector.false _ c.weigh_in.ensures
-    c.if-number-ne-HANDED_OUT.true
-
-pub returns-then-stood-eq-HANDED_OUT : goal.returns-then-stood-eq-HANDED_OUT
-returns-then-stood-eq-HANDED_OUT c =
-    let a = c.args in
-    heard_again a.count a.said a.payload.now a.payloads.now a.statuses.now c.if-count-sector.false _ c.weigh_in.ensures
-    c.if-number-ne-HANDED_OUT.false c.if-stood-eq-HANDED_OUT.true
+pub returns-then-eq : goal.returns-then-eq
+returns-then-eq c =
+    hears_again _ _ _ c.args.statuses.now c.if-statuses-sector.false _ _ c.weighed.ensures
+    (differs-not _ (sym c.ne.ensures ∙ c.if-ne.false)) (given-is _ (sym c.eq.ensures ∙ c.if-eq.true))
 
 pub returns : goal.returns
 returns c =
-    let a = c.args in
-    heard_new a.count a.said a.payload.now a.payloads.now a.statuses.now c.if-count-sector.false _ c.weigh_in.ensures
-    c.if-number-ne-HANDED_OUT.false c.if-stood-eq-HANDED_OUT.false _ c.store.ensures
+    hears_new _ _ _ c.args.statuses.now c.if-statuses-sector.false _ _ c.weighed.ensures
+    (differs-not _ (sym c.ne.ensures ∙ c.if-ne.false)) (given-not _ (sym c.eq.ensures ∙ c.if-eq.false)) _ c.store.ensures

@@ -2,7 +2,6 @@ use native.Mathlib.Omega.{arith}
 use mathlib.Core.Path.{◌∙◌}
 use lib.ListN.{replicate}
 use Rattle.track_read.proofs.StatusLaws.{no_track_lem, ring-read}
-use borrow.Author.Rules.{rules}
 use Rattle.track_read.proofs.ring_statuses.Goals as goal
 
 pub returns : goal.returns

@@ -1,19 +1,12 @@
-use mathlib.Core.Path.{refl, sym, ◌∙◌}
-use native.Mathlib.Omega.{arith}
-use Rattle.replay_shared.proofs.SumLaws.{sum_more, sum_all}
+use Rattle.std.proofs.Common.{◌∙◌, rules, tests}
+use Rattle.std.proofs.lemmas.Iterator.{YieldsList-from_slice}
+use Rattle.std.proofs.lemmas.Iterator.Consumers.{fold_from_yields_List}
+use Rattle.replay_shared.specs.Sum.{mixed}
+use Rattle.replay_shared.proofs.SumLaws.{folded}
 use Rattle.replay_shared.proofs.sum.mix_all.Goals as goal
-
-pub loop-i-init : goal.loop-i-init
-loop-i-init c = (omega arith, refl)
-
-pub loop-i-preserved : goal.loop-i-preserved
-loop-i-preserved c =
-    let l = c.loop-i in
-    let a = c.args in
-    (omega arith, sum_more a.part.now l.s c.mix-s.result l.i (omega arith) c.mix-s.ensures ∙ l.invariant.1)
 
 pub returns : goal.returns
 returns c =
-    let l = c.loop-i in
-    let a = c.args in
-    sym (sum_all a.part.now l.s l.i (omega arith)) ∙ l.invariant.1
+    fold_from_yields_List _ mixed c.args.sum c.fold.result c.fold.ensures.ran (YieldsList-from_slice c.args.part.now cc)
+    (λ a x b q k. search (rules, tests))
+    ∙ folded c.args.part.now c.args.sum

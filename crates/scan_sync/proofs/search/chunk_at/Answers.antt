@@ -1,7 +1,6 @@
 use Prim.Native.Nat.{◌%◌}
 use mathlib.Core.Path.{◌∙◌}
 use Rattle.base.proofs.Tests.{eqb_yes, eqb_no, leb_yes, leb_no}
-use borrow.Author.Rules.{rules}
 use Rattle.scan_sync.proofs.ChunkLaws.{whole_byte}
 use Rattle.scan_sync.proofs.search.chunk_at.Goals as goal
 

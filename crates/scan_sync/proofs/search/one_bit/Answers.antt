@@ -6,7 +6,6 @@ use lib.Bits.{and_mask}
 use lib.ListN.{length, get_or}
 use Rattle.ring.specs.Bit.{bit_at}
 use Rattle.scan_sync.specs.Inside.{one_bit}
-use borrow.Author.Rules.{rules}
 use Rattle.scan_sync.proofs.search.one_bit.Goals as goal
 
 pub overflow_mul-result : goal.overflow_mul-result

@@ -1,6 +1,0 @@
-use Rattle.page.proofs.PageLaws.{then}
-use Rattle.page_master.proofs.put_written.Goals as goal
-
-pub returns : goal.returns
-returns c =
-    then _ _ _ _ _ c.counted-a.ensures (then _ _ _ _ _ c.counted-b.ensures c.words.ensures)
