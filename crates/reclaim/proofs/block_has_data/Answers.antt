@@ -11,8 +11,8 @@ overflow_add-end c = omega (arith, offset_le c.args.track c.args.sector)
 pub returns-then-end-image : goal.returns-then-end-image
 returns-then-end-image c =
     let a = c.args in
-    block-there a.image.now a.track a.sector c.d64_place-at.result c.d64_place-at.ensures c.any_nonzero.result (omega arith)
-    (c.any_nonzero.ensures ∙ ap any_nonzero c.copy_block-block.ensures)
+    block-there a.image.now a.track a.sector c.d64_place-at.result c.d64_place-at.ensures c.any_set.result (omega arith)
+    (c.any_set.ensures ∙ ap any_nonzero c.copy_block-block.ensures)
 
 pub returns : goal.returns
 returns c =
