@@ -3,7 +3,7 @@
 #![tactic(auto)]
 
 ghost use Rattle.std.specs.Prelude.{◌≡◌, ℕ, ◌+◌, ◌-◌, ◌<◌, ◌≤◌, length, take, drop, None, IfSome, IfOk, OnOk, OnErr};
-ghost use Rattle.std.specs.Io.{ReadsAtMost};
+ghost use Rattle.std.specs.Io.{ReadsAtMost, WritesAtMost};
 ghost use Rattle.std.specs.Io.KnownBytes.{Appends, Consumes, IsAtEnd, Keeps};
 ghost use Rattle.base.specs.Answers.{number_of};
 ghost use Rattle.page.specs.Page.{all_of};
@@ -65,6 +65,42 @@ pub fn fill<R: Read>(reader: &mut R, buffer: &mut [u8]) -> Result<usize>
     Ok(done)
 }
 
+// One write, tried again where a signal interrupts it.
+fn write_retrying<W: Write>(writer: &mut W, bytes: &[u8]) -> Result<usize>
+    ensures bound { WritesAtMost result bytes.now }
+    ensures ok { IfOk result (λ n. Appends (W.contents writer.old) (W.contents writer.new) (take n bytes.now)) }
+    ensures err { OnErr result (Keeps (W.contents writer.old) (W.contents writer.new)) }
+{
+    for _ in 0..u64::MAX {
+        match writer.write(bytes) {
+            Ok(n) => return Ok(n),
+            Err(e) => {
+                if e.kind() != ErrorKind::Interrupted {
+                    return Err(e);
+                }
+            }
+        }
+    }
+    Err(Error::new(ErrorKind::TimedOut, "each of 2^64 writes was interrupted"))
+}
+
+// Writes the bytes as std's own `write_all` does, which promises nothing after an error. Here the first of them were then written, none
+// twice.
+fn put_all<W: Write>(out: &mut W, bytes: &[u8]) -> Result<()>
+    ensures all { OnOk result (Appends (W.contents out.old) (W.contents out.new) bytes.now) }
+    ensures part { OnErr result ((k : ℕ) × Appends (W.contents out.old) (W.contents out.new) (take k bytes.now)) }
+{
+    let mut done = 0;
+    while done < bytes.len() {
+        let n = write_retrying(out, &bytes[done..])?;
+        if n == 0 {
+            return Err(Error::new(ErrorKind::WriteZero, "failed to write whole buffer"));
+        }
+        done += n;
+    }
+    Ok(())
+}
+
 // An image read into the lent room: how long it is. Of one that fills the room only that it is too long is told.
 pub fn read_image<R: Read, E: Write>(
     input: &mut R,
@@ -78,10 +114,11 @@ pub fn read_image<R: Read, E: Write>(
     ensures silent { IfOk result (λ read. IfSome read (λ n. Keeps (E.contents err.old) (E.contents err.new))) }
     ensures told { IfOk result (λ read. read ≡ None → Appends (E.contents err.old) (E.contents err.new) too_long) }
     ensures filled { IfOk result (λ read. read ≡ None → Consumes (R.remaining input.old) (R.remaining input.new) room.new) }
+    ensures part { OnErr result ((k : ℕ) × Appends (E.contents err.old) (E.contents err.new) (take k too_long)) }
 {
     let n = fill(input, room)?;
     if n == room.len() {
-        err.write_all(b"too long\n")?;
+        put_all(err, b"too long\n")?;
         return Ok(None);
     }
     Ok(Some(n))
@@ -89,12 +126,13 @@ pub fn read_image<R: Read, E: Write>(
 
 // The line of a refusal.
 pub fn refuse<W: Write>(err: &mut W, why: Refusal) -> Result<()>
-    ensures { OnOk result (Appends (W.contents err.old) (W.contents err.new) (all_of (refused_line (number_of why)))) }
+    ensures done { OnOk result (Appends (W.contents err.old) (W.contents err.new) (all_of (refused_line (number_of why)))) }
+    ensures part { OnErr result ((k : ℕ) × Appends (W.contents err.old) (W.contents err.new) (take k (all_of (refused_line (number_of why))))) }
 {
     let mut line = [0u8; 128];
     let mut page = Page::new(&mut line);
     page_lines::refused_line(&mut page, why.number());
-    err.write_all(page.written())
+    put_all(err, page.written())
 }
 
 #[cfg(test)]

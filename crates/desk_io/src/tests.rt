@@ -1,6 +1,6 @@
 use crate::{fill, read_image, refuse};
 use base::Refusal;
-use std::io::{Error, ErrorKind, Read, Result};
+use std::io::{Error, ErrorKind, Read, Result, Write};
 
 // Gives one byte, is interrupted once, gives another, and fails from then on.
 #[derive(Drop)]
@@ -23,6 +23,39 @@ impl Read for Faulty {
             1 => Err(Error::new(ErrorKind::Interrupted, "a signal")),
             _ => Err(Error::other("no more")),
         }
+    }
+}
+
+// Takes one byte, is interrupted once, takes another, and fails from then on.
+#[derive(Drop)]
+struct Choked {
+    turn: u8,
+    taken: [u8; 2],
+}
+
+impl Write for Choked {
+    fn write(&mut self, buf: &[u8]) -> Result<usize> {
+        let turn = self.turn;
+        self.turn = turn.saturating_add(1);
+        if buf.is_empty() {
+            return Ok(0);
+        }
+        match turn {
+            0 => {
+                self.taken[0] = buf[0];
+                Ok(1)
+            }
+            1 => Err(Error::new(ErrorKind::Interrupted, "a signal")),
+            2 => {
+                self.taken[1] = buf[0];
+                Ok(1)
+            }
+            _ => Err(Error::other("no more")),
+        }
+    }
+
+    fn flush(&mut self) -> Result<()> {
+        Ok(())
     }
 }
 
@@ -78,5 +111,26 @@ fn tells_a_refusal_by_its_number(rt: HostRuntime) -> Result<()> {
     let mut told = Vec::new(rt.alloc());
     refuse(&mut told, Refusal::WrongImage)?;
     assert!(rt; told.as_slice() == b"refused 3\n".as_slice());
+    Ok(())
+}
+
+#[test]
+fn answers_a_failed_write(rt: HostRuntime) -> Result<()> {
+    let mut writer = Choked {
+        turn: 0,
+        taken: [7, 7],
+    };
+    match refuse(&mut writer, Refusal::WrongImage) {
+        Ok(()) => assert!(rt; false),
+        Err(e) => assert!(rt; e.kind() == ErrorKind::Other),
+    }
+    assert!(rt; writer.turn == 4 && writer.taken == *b"re");
+    let mut room = [7u8; 4];
+    let mut full: &mut [u8] = &mut room;
+    match refuse(&mut full, Refusal::WrongImage) {
+        Ok(()) => assert!(rt; false),
+        Err(e) => assert!(rt; e.kind() == ErrorKind::WriteZero),
+    }
+    assert!(rt; room == *b"refu");
     Ok(())
 }

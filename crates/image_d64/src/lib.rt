@@ -14,7 +14,7 @@ pub fn d64_sector(image: &[u8], track: u8, sector: u8) -> Sector
         let bytes = base::copy_block(&image[at..end]);
         return base::good_sector(bytes);
     }
-    base::refused_sector(base::Refusal::NoRecord)
+    base::refused_sector(base::Refusal::NoRecord.number())
 }
 
 // The error byte of a sector, 1 where the image has none.

@@ -1,18 +1,18 @@
 -- The rings that a table names lie in the file.
-use Prim.Native.Nat.{ℕ, ◌+◌, ◌*◌, ◌-◌, ◌≤◌}
+use Prim.Native.Nat.{ℕ, zero, suc, ◌+◌, ◌*◌, ◌-◌, ◌≤◌}
 use native.Mathlib.Decide.{dec_lt}
 use native.Mathlib.Omega.{arith}
-use mathlib.Core.Path.{sym, subst}
+use mathlib.Core.Path.{◌≡◌, refl, sym, subst}
 use mathlib.Core.List.{map}
 use lib.Dec.{eqb}
-use lib.ListN.{length, get_or, get_or-eq_default}
+use lib.ListN.{length, get_or, replicate, get_or-eq_default}
 use Rattle.std.specs.Prelude.{Option, Some, None}
 use Rattle.std.specs.List.{range_with_len}
 use Rattle.std.proofs.lemmas.List.FromFn.{length-map-range_with_len, get_or-map-range_with_len}
 use Rattle.base.proofs.Picks.{pick_ind}
 use Rattle.image_rings.specs.declared.Span.{Span}
 use Rattle.image_rings.specs.declared.Rings.{Rings}
-use Rattle.image_rings.specs.Rings.{no_span, span_of, start_of, length_of, table_of, half_track, ring_place}
+use Rattle.image_rings.specs.Rings.{no_span, span_of, start_of, length_of, table_of, no_rings, half_track, ring_place}
 
 -- a span, and a ring, lies in a file of so many bytes
 abbrev pub SpanInside : ℕ → Span → Type 0
@@ -27,6 +27,15 @@ pub record AllInside (size : ℕ) (rings : Rings) : Type 0 where
 
 pub absent_inside : (size : ℕ) → Inside size None
 absent_inside size = omega arith
+
+none-at : (n half : ℕ) → get_or (replicate n no_span) half no_span ≡ no_span
+none-at zero half = refl
+none-at (suc n) zero = refl
+none-at (suc n) (suc half) = none-at n half
+
+-- so do those of a table without a ring
+pub none_inside : (size : ℕ) → AllInside size no_rings
+none_inside size = record { each = λ half. subst (SpanInside size) (sym (none-at 84 half)) (absent_inside size) }
 
 pub table-inside : (size : ℕ) (ring : ℕ → Option Span) → ((half : ℕ) → Inside size (ring half)) → AllInside size (table_of ring)
 unfolding table_of

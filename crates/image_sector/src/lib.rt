@@ -59,7 +59,7 @@ impl TrackLayout {
             Kind::D64(_) => image_d64::d64_sector(image, track, sector),
             Kind::G64 => read_at(image, self.ring, Rule::Unique, track, sector),
             Kind::Nib => read_at(image, self.ring, Rule::Consistent, track, sector),
-            Kind::Unknown => base::refused_sector(Refusal::NoRecord),
+            Kind::Unknown => base::refused_sector(Refusal::NoRecord.number()),
         }
     }
 
@@ -88,7 +88,7 @@ fn read_at(image: &[u8], ring: Option<Span>, rule: Rule, track: u8, sector: u8) 
             let end = span.start + span.length;
             sector::read_by(&image[span.start..end], track, sector, rule)
         }
-        None => base::refused_sector(Refusal::NoRecord),
+        None => base::refused_sector(Refusal::NoRecord.number()),
     }
 }
 

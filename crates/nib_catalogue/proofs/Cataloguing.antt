@@ -43,6 +43,20 @@ any_below r test z s (suc n) =
     let e : 0 + n ≡ n = omega arith in
     any_last test 0 n ∙ rw (e, any_below r test z s n) (sym (s n))
 
+-- the same recursion, counting down: what a turn tells
+pub any_none : (r : ℕ → Bool) (k : ℕ) → r 0 ≡ false → k ≡ 0 → false ≡ r k
+any_none r k z e = rw e (sym z)
+
+module _ (r test : ℕ → Bool) (s : (n : ℕ) → r (suc n) ≡ test n || r n) (k : ℕ) (h : 0 < k) where
+  any_down : r k ≡ test (k - 1) || r (k - 1)
+  any_down = let e : k ≡ suc (k - 1) = omega arith in ap r e ∙ s (k - 1)
+
+  pub any_here : test (k - 1) ≡ true → r k ≡ true
+  any_here e = any_down ∙ rw e
+
+  pub any_on : test (k - 1) ≡ false → r k ≡ r (k - 1)
+  any_on e = any_down ∙ rw e
+
 -- which pair has a code, counting down
 pub place_none : (file : List ℕ) (c k : ℕ) → k ≡ 0 → None ≡ entry_with file c k
 unfolding entry_with

@@ -43,7 +43,13 @@ fn is_among(image: &[u8], code: u8, n: usize) -> bool
     requires { (n ≤ 120) × (256 ≤ length image.now) }
     ensures { result ≡ among image.now code n }
 {
-    (0..n).any(|k| image[16 + 2 * k] == code)
+    // A loop from the last pair down, as in `find_code`.
+    for k in (0..n).rev() {
+        if image[16 + 2 * k] == code {
+            return true;
+        }
+    }
+    false
 }
 
 // Is pair k faulty?
@@ -60,7 +66,13 @@ fn any_faulty(image: &[u8], n: usize) -> bool
     requires { (n ≤ 120) × (256 ≤ length image.now) }
     ensures { result ≡ any_faulty image.now n }
 {
-    (0..n).any(|k| is_faulty(image, k))
+    // From the last pair down too.
+    for k in (0..n).rev() {
+        if is_faulty(image, k) {
+            return true;
+        }
+    }
+    false
 }
 
 // The number of pairs of a file.

@@ -96,7 +96,7 @@ pub limits : (zone : ℕ) → Limits (lowest zone) (highest zone) (middle zone)
 unfolding lowest highest middle
 limits zone = limits_at (zone % 4) (mod-lt zone (lit< tt))
 
--- the table that the code has of them
+-- what the code has of them, as a table
 abbrev zones : List Zone
 zones =
     record { lowest = 6183; highest = 6311; middle = 6247 }

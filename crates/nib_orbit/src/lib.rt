@@ -30,29 +30,6 @@ struct Zone {
     middle: usize,
 }
 
-const ZONES: [Zone; 4] = [
-    Zone {
-        lowest: 6183,
-        highest: 6311,
-        middle: 6247,
-    },
-    Zone {
-        lowest: 6598,
-        highest: 6726,
-        middle: 6662,
-    },
-    Zone {
-        lowest: 7073,
-        highest: 7201,
-        middle: 7137,
-    },
-    Zone {
-        lowest: 7616,
-        highest: 7824,
-        middle: 7720,
-    },
-];
-
 // The pairs of equal bytes of a window that lie a span apart.
 fn agreements(window: &[u8], span: usize) -> usize
     requires { span ≤ length window.now }
@@ -124,7 +101,29 @@ fn limits_of(zone: u8) -> Zone
     ensures highest { result.highest ≡ highest zone }
     ensures middle { result.middle ≡ middle zone }
 {
-    ZONES[usize::from(zone % 4)]
+    // No table: at each look-up it would be stored to the stack whole.
+    match zone % 4 {
+        0 => Zone {
+            lowest: 6183,
+            highest: 6311,
+            middle: 6247,
+        },
+        1 => Zone {
+            lowest: 6598,
+            highest: 6726,
+            middle: 6662,
+        },
+        2 => Zone {
+            lowest: 7073,
+            highest: 7201,
+            middle: 7137,
+        },
+        _ => Zone {
+            lowest: 7616,
+            highest: 7824,
+            middle: 7720,
+        },
+    }
 }
 
 // The span that is taken for one turn of the disk, and what speaks for it.

@@ -55,8 +55,8 @@ pub fn nib_ring(image: &[u8], slot: usize) -> &[u8]
 pub fn nib_slot(image: &[u8], slot: usize) -> Result<Option<SlotRing>, Refusal>
     ensures { result ≡ slot_answer image.now slot }
 {
-    let entry = entry_of(image, slot)?;
-    match entry {
+    let found = entry_of(image, slot)?;
+    match found {
         Some(k) => {
             let zone = nib_catalogue::zone_at(image, k);
             let chosen = nib_orbit::estimate_orbit(nib_catalogue::window_at(image, k), zone);

@@ -13,18 +13,26 @@ use Rattle.std.proofs.Math.Seq.{take-length}
 use native.Mathlib.Decide.{dec_le, ℕ_discrete}
 use lib.Dec.{eqb}
 use lib.ListN.{length, get_or, set, take, drop, replicate, length-append, length-replicate}
-use lib.Seq.{sets, sets-eq}
+use lib.Seq.{sets, sets-eq, take-suc}
 use borrow.Author.Tests.{eq-eqb, ne_eqb, lt-ltb, le-ltb}
 use Rattle.base.specs.Choice.{pick}
 use Rattle.base.specs.Answers.{named}
 use Rattle.base.specs.Lists.{tab, joined}
 use Rattle.base.proofs.Lists.{length-tab, is_tab, tab_split, length-joined, joined-next}
+use Rattle.base.proofs.InRow.{sets_more}
 use Rattle.base.proofs.Pieces.{put_turn}
 use Rattle.nib_write.specs.Encoding.{sum_to, any_long, rings_to, pair_of, slot_ring, repeated, slot_window}
 use Rattle.nib_write.specs.Encoding.{file_head, file_of, size_of, filled, encoding_refusal, encoded_of, out_after}
 use Rattle.base.specs.declared.Refusal.{Refusal}
 use Rattle.base.specs.declared.Refusal.TheVariants.{WrongSum, RingTooLong, NoRing, NoRoom}
 use Rattle.std.specs.Prelude.{Result, Ok, Err}
+
+-- a byte more of a run that is stored one by one
+pub stored_next : (l vs : List ℕ) (at i : ℕ) → i < length vs → set (sets l at (take i vs)) (at + i) (get_or vs i 0)
+    ≡ sets l at (take (i + 1) vs)
+stored_next l vs at i h =
+    sets_more (take i vs) (get_or vs i 0 ∷ []) l at i (length-take-le i vs (omega arith))
+    ∙ ap (sets l at) (sym (take-suc vs i 0 h) ∙ ap (λ (n : ℕ). take n vs) (sym (add-one i)))
 
 -- ---- the slots
 

@@ -52,7 +52,12 @@ fn sum_is(lengths: &[u64], total: usize) -> bool
 fn any_long(lengths: &[u64]) -> bool
     ensures { result ≡ any_long lengths.now 84 }
 {
-    (0..84).any(|slot| base::MAX_RING < length_at(lengths, slot))
+    for slot in (0..84).rev() {
+        if base::MAX_RING < length_at(lengths, slot) {
+            return true;
+        }
+    }
+    false
 }
 
 // How many of the first 84 slots have a ring.
@@ -92,6 +97,17 @@ fn put_pairs(out: &mut [u8], lengths: &[u64], zones: &[u8]) -> usize
     at
 }
 
+// A ring, or the front of one, stored from `at` on. Byte by byte: a store of the whole part would ask C programs for memmove, since the
+// compiler does not see that the two lie apart.
+fn put_ring(out: &mut [u8], at: usize, ring: &[u8])
+    requires { at + length ring.now ≤ length out.old }
+    ensures { out.new ≡ sets out.old at ring.now }
+{
+    for (i, byte) in ring.iter().enumerate() {
+        out[at + i] = *byte;
+    }
+}
+
 // A ring repeated over a window: whole as often as it fits, and then its beginning.
 fn put_window(out: &mut [u8], at: usize, ring: &[u8])
     requires { (0 < length ring.now) × (at + 8192 ≤ length out.old) }
@@ -100,9 +116,9 @@ fn put_window(out: &mut [u8], at: usize, ring: &[u8])
     let n = ring.len();
     let times = 8192 / n;
     for k in 0..times {
-        base::store(out, at + k * n, ring);
+        put_ring(out, at + k * n, ring);
     }
-    base::store(out, at + times * n, &ring[0..8192 % n]);
+    put_ring(out, at + times * n, &ring[0..8192 % n]);
 }
 
 // The windows of all slots, one after the other from byte 256 on.

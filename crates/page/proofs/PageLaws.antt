@@ -1,5 +1,5 @@
 -- Pages by their pieces.
---     writes_more              a text put, and then another
+--     writes_more, then        a text put, and then another; the same of three pages
 --     same_loan                what is put on a page stands in the bytes that were lent for it
 --     one_more, one_more_from_1    n texts, and then one more
 --     long_enough              on a page that is long enough the pieces stand one after the other
@@ -26,6 +26,9 @@ use Rattle.page.specs.Page.{Text, all_of, together, sheet, with_piece, writes, w
 pub writes_more : (page : Page) (s t : Text) → writes page (s ++ t) ≡ writes (writes page s) t
 writes_more page [] t = refl
 writes_more page (piece ∷ s) t = writes_more (with_piece page piece) s t
+
+pub then : (p q r : Page) (s t : Text) → q ≡ writes p s → r ≡ writes q t → r ≡ writes p (s ++ t)
+then p q r s t e f = f ∙ ap (λ (x : Page). writes x t) e ∙ sym (writes_more p s t)
 
 -- the page is the one that was lent, whatever is put on it
 one_loan : (page : Page) (piece : List ℕ) → (with_piece page piece).bytes.ghost_name ≡ page.bytes.ghost_name

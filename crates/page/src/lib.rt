@@ -19,6 +19,21 @@ impl<'a> Page<'a> {
         Page { bytes, place: 0 }
     }
 
+    // A page that goes on at a place: what stands in front of it is kept.
+    pub fn at(bytes: &'a mut [u8], place: usize) -> Page<'a>
+        ensures { result ≡ sheet bytes.entry place }
+    {
+        Page { bytes, place }
+    }
+
+    // The place where the next piece goes: behind what is written.
+    pub fn place(&self) -> usize
+        ensures { result ≡ self.now.place }
+    {
+        let next = self.place;
+        next
+    }
+
     // Is there room for n more bytes?
     fn has_room(&self, n: usize) -> bool
         ensures { result ≡ leb (self.now.place + n) (length self.now.bytes.now) }

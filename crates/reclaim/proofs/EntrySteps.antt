@@ -14,7 +14,7 @@ use Rattle.std.specs.Prelude.{Ok, Err}
 use Rattle.base.specs.declared.Refusal.{Refusal}
 use Rattle.image_rings.specs.declared.Rings.{Rings}
 use Rattle.image_rings.specs.Rings.{no_span, no_rings}
-use Rattle.image_rings.proofs.TableLaws.{SpanInside, AllInside, absent_inside}
+use Rattle.image_rings.proofs.TableLaws.{AllInside, none_inside}
 use Rattle.image_kind.specs.declared.Kind.{Kind}
 use Rattle.image_kind.specs.declared.Kind.TheVariants.{D64}
 use Rattle.reclaim_directory.specs.Disk.{disk1541, links_up_to}
@@ -23,11 +23,6 @@ use Rattle.reclaim.specs.Inside.{on_rings}
 use Rattle.image_sector.specs.Media.{d64_medium, rings_medium}
 use Rattle.reclaim.specs.Images.{by_tracks, cleared_d64, by_table}
 use Rattle.image_sector.specs.Callers.{Complete}
-
-none-at : (n half : ℕ) → get_or (replicate n no_span) half no_span ≡ no_span
-none-at zero half = refl
-none-at (suc n) zero = refl
-none-at (suc n) (suc half) = none-at n half
 
 -- a D64 image by its size
 module _ (l : List ℕ) where
@@ -48,7 +43,7 @@ module _ (l : List ℕ) where
         let f = d64_facts (length l) n e in
         record {
           sectors = λ _ _. omega (arith, sum_mono 35 n f.0, f.2);
-          rings = λ half. subst (SpanInside (length l)) (sym (none-at 84 half)) (absent_inside (length l));
+          rings = (none_inside (length l)).each;
         }
 
 -- an image of rings by its table

@@ -4,7 +4,7 @@
 --     turn_record, turn_skip         a record, or the scan goes on
 --     turn_next, turn_place, turn_behind    the record as the next one, its place, and behind it
 --     turn_near, turn_index          where the places lie, and which symbol; turn_asks, turn_goes: what the code asks of them
---     turn_visit                     the same of visits; turn_met, turn_long, turn_on: the visit itself, its payload, further on
+--     turn_visit                     the same of visits; turn_met, turn_long: the visit itself, its payload; turn_past, turn_on: on
 use mathlib.Core.Path.{◌≡◌, refl, sym, ap, ◌∙◌, subst}
 use mathlib.Core.List.{List, [], ◌∷◌}
 use Prim.Native.Nat.{ℕ, ◌+◌, ◌-◌, ◌≤◌, ◌<◌}
@@ -308,9 +308,9 @@ module _ (x : ℕ → ℕ) (track end b : ℕ) where
         visits_turn x track end b v.place at_place.0
         ∙ ap (λ (y : ℕ). visit x track v.place ∷ visits x track end y) after_is
 
-    -- the scan goes on further on
+    -- the scan goes on behind the visit, and so further on
+    pub turn_past : v.place < bit_after v.place v.met.data
+    turn_past = subst (λ (y : ℕ). v.place < y) after_is (visit-on x track v.place)
+
     pub turn_on : (b < end) × (b < bit_after v.place v.met.data)
-    turn_on =
-        let on : v.place < bit_after v.place v.met.data =
-        subst (λ (y : ℕ). v.place < y) after_is (visit-on x track v.place) in
-        (turn_near.0, omega (arith, turn_near.1, on))
+    turn_on = (turn_near.0, omega (arith, turn_near.1, turn_past))

@@ -1,4 +1,4 @@
--- Some each visit the bad symbol tells of the blocks that the visit looked at.
+-- At each visit the bad symbol tells of the blocks that the visit looked at.
 --     reduced     a symbol is the same at a place and at its ring bit
 --     first_bad_lem   where decoding gives an index, the symbol there is the first bad one
 --     all_legal   where decoding gives bytes, there is none

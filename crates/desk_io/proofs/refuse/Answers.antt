@@ -1,4 +1,5 @@
-use Rattle.std.proofs.Common.{◌≡◌, ◌<◌, ◌∙◌, arith}
+use Rattle.std.proofs.Common.{◌≡◌, ℕ, ◌<◌, List, take, OnOk, OnErr, subst, ◌∙◌, arith}
+use Rattle.std.specs.Io.KnownBytes.{Appends}
 use Rattle.base.specs.Answers.{number_of}
 use Rattle.base.specs.declared.Refusal.{Refusal}
 use Rattle.base.specs.declared.Refusal.TheVariants.{RingEmpty, RingTooLong, WrongImage, WrongEntries, NoDirectory, WrongLink}
@@ -27,4 +28,9 @@ pub returns : goal.returns
 returns g c =
     let put : c.refused_line.new.page ≡ writes c.new-page.result (refused_line (number_of c.args.why)) = rw c.number.ensures at c.refused_line.ensures in
     let text = printed (refused_line (number_of c.args.why)) _ _ (refused-fits (number_of c.args.why) (small c.args.why)) (rw c.new-page.ensures at put) in
-    rw (c.written.ensures ∙ text) at c.write_all.ensures.bytes
+    let line = c.written.ensures ∙ text in
+    let told : List ℕ → Type 0 = Appends (g.W.Write.contents c.args.err.now) (g.W.Write.contents c.put_all.new.out) in
+    record {
+      done = subst (λ l. OnOk c.put_all.result (told l)) line c.put_all.ensures.all;
+      part = subst (λ l. OnErr c.put_all.result ((k : ℕ) × told (take k l))) line c.put_all.ensures.part;
+    }

@@ -1,4 +1,5 @@
 use Rattle.geometry.proofs.D64Laws.{offset_le}
+use Rattle.base.specs.Sectors.{refused}
 use Rattle.image_d64.proofs.D64Reads.{sector_in_lem, sector_out}
 use mathlib.Core.Path.{◌≡◌, refl, sym, ap, ◌∙◌}
 use mathlib.Core.Bool.{Bool, true, false}
@@ -22,4 +23,5 @@ pub returns : goal.returns
 returns c =
     let a = c.args in
     c.refused_sector.ensures
+    ∙ ap refused c.number.ensures
     ∙ sector_out a.image.now a.track a.sector c.d64_place-at.result c.d64_place-at.ensures (omega arith)

@@ -13,8 +13,8 @@ loop-k-init c =
 
 pub loop-k-preserved : goal.loop-k-preserved
 loop-k-preserved c = (
-  c.store.auto.out ∙ c.loop-k.invariant.0,
-  ring_laid c.args.ring.now c.args.out.now c.loop-k.out c.store.new.out c.args.at c.loop-k.k c.loop-k.invariant.1 c.store.ensures,
+  c.put_ring.auto.out ∙ c.loop-k.invariant.0,
+  ring_laid c.args.ring.now c.args.out.now c.loop-k.out c.put_ring.new.out c.args.at c.loop-k.k c.loop-k.invariant.1 c.put_ring.ensures,
 )
 
 pub returns : goal.returns
@@ -23,5 +23,5 @@ returns c =
     let over : 8192 % n < n = mod-lt 8192 c.requires.0 in
     let all : 8192 / n * n + 8192 % n ≡ 8192 = div-add-mod' 8192 n in
     let last : c.loop-k.k ≡ 8192 / n = omega arith in
-    window_done c.args.ring.now c.args.out.now c.loop-k.out c.store-2.new.out c.args.at (8192 / n) (rw last at c.loop-k.invariant.1)
-    (8192 % n) (omega arith) all c.store-2.ensures
+    window_done c.args.ring.now c.args.out.now c.loop-k.out c.put_ring-2.new.out c.args.at (8192 / n) (rw last at c.loop-k.invariant.1)
+    (8192 % n) (omega arith) all c.put_ring-2.ensures
