@@ -1,11 +1,8 @@
-use Rattle.std.proofs.Common.{◌+◌, List, ℕ, refl, ap, ◌∙◌}
+use Rattle.std.proofs.Common.{◌+◌, List, ℕ, ap, ◌∙◌}
 use lib.ListN.{set, get_or}
 use lib.Seq.{sets, take_all}
 use Rattle.nib_write.proofs.Laying.{stored_next}
 use Rattle.nib_write.proofs.put_ring.Goals as goal
-
-pub loop-i-init : goal.loop-i-init
-loop-i-init c = refl
 
 pub loop-i-preserved : goal.loop-i-preserved
 loop-i-preserved c =
